@@ -1,0 +1,3 @@
+pub mod Divisions
+pub mod Turns
+pub mod Fits

@@ -1,0 +1,5 @@
+pub mod Words
+pub mod Formats
+pub mod Rounding
+pub mod Overflow
+pub mod Settings

@@ -1,0 +1,5 @@
+// Fixed-point arithmetic: formats, words, rounding rules and overflow rules.
+pub mod format;
+pub mod overflow;
+pub mod rounding;
+pub mod setting;

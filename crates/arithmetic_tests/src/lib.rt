@@ -1,0 +1,3 @@
+// Worked examples of the fixed-point arithmetic.
+#[cfg(test)]
+mod tests;

@@ -1,0 +1,3 @@
+// Tests of wirings, programs and the runner.
+#[cfg(test)]
+mod tests;
