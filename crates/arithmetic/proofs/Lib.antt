@@ -1,3 +1,4 @@
 pub mod Divisions
 pub mod Turns
 pub mod Fits
+pub mod RuleLaws

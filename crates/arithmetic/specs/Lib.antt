@@ -3,3 +3,4 @@ pub mod Formats
 pub mod Rounding
 pub mod Overflow
 pub mod Settings
+pub mod Choices

@@ -1,4 +1,5 @@
 // Fixed-point arithmetic: formats, words, rounding rules and overflow rules.
+pub mod choice;
 pub mod format;
 pub mod overflow;
 pub mod rounding;

@@ -2,7 +2,7 @@
 use mathlib.Core.Path.{_≡_, refl, sym, ap, _∙_}
 use mathlib.Core.Bool.{Bool, true, false, cond}
 use mathlib.Core.List.{List, [], _∷_, _++_, append-assoc}
-use Prim.Native.Nat.{ℕ, zero, suc, _+_, _<_, _≤_, min}
+use Prim.Native.Nat.{ℕ, _+_, min}
 use native.Mathlib.Omega.{arith}
 use lib.Dec.{ltb}
 use lib.ListN.{length, length-append}
@@ -13,7 +13,7 @@ use Rattle.std.proofs.shelf.Lists.{joined-more, map-id}
 use Rattle.std.proofs.shelf.Tests.{ltb-true, ltb-false}
 use Rattle.wiring.specs.declared.graph.Node.{Node}
 use Rattle.wiring.specs.declared.graph.Node.the-variants.{Sum, Difference}
-use Rattle.forms.specs.Parts.{total-nodes, total-end, total-place, totals-of, end-of}
+use Rattle.forms.specs.Parts.{total-nodes, total-end, total-place, totals-of}
 
 -- one total, made of a sum and a difference that may be left out
 after-one : {A : Type 0} (more : Bool) (x : A) (was now : List A) → now ≡ was ++ cond more (x ∷ []) [] → length now ≡ cond more (length was + 1) (length was)

@@ -1,20 +1,20 @@
 -- Rows of nodes laid one behind the other are the nodes of a form.
 use mathlib.Core.Path.{_≡_, refl, sym, ap, _∙_}
 use mathlib.Core.List.{List, [], _∷_, _++_}
-use Prim.Native.Nat.{ℕ, zero, suc, _+_, _-_, max}
+use Prim.Native.Nat.{ℕ, _+_, _-_, max}
 use native.Mathlib.Omega.{arith}
-use mathlib.Core.Bool.{true, false, cond}
+use mathlib.Core.Bool.{false, cond}
 use lib.Dec.{eqb}
 use lib.ListN.{length}
 use Rattle.std.proofs.shelf.Lists.{length-push}
 use Rattle.std.proofs.shelf.Counted.{length-map-counting}
 use Rattle.wiring.specs.declared.graph.Node.{Node}
-use Rattle.wiring.specs.declared.graph.Node.the-variants.{Input, Zero, Register, Scale, Sum, Difference}
+use Rattle.wiring.specs.declared.graph.Node.the-variants.{Input, Zero, Register, Sum}
 use Rattle.wiring.specs.Graphs.{Graph}
 use Rattle.std.specs.Iters.{counting}
 use Rattle.std.specs.Joined.{joined}
 use Rattle.forms.specs.Parts.{listed, chain, registers, taps, gains, sums, differences, delays, totals-of, end-of}
-use Rattle.forms.specs.Forms.{direct1, direct1-nodes, direct1-output, direct1-products, direct1-totals, direct1-sum, direct2, direct2-totals, direct2-products, transposed2, transposed2-gain, transposed2-recursive, transposed2-products, transposed2-output, transposed2-totals}
+use Rattle.forms.specs.Forms.{direct1, direct1-nodes, direct1-output, direct1-products, direct1-totals, direct2, direct2-totals, direct2-products, transposed2, transposed2-gain, transposed2-recursive, transposed2-products, transposed2-output, transposed2-totals}
 use Rattle.forms.proofs.Growing.{grown-length}
 
 pub start-length : (n : ℕ) (ns : List Node) → ns ≡ Input ∷ registers n → length ns ≡ n + 1

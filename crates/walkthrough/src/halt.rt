@@ -1,5 +1,7 @@
 use arithmetic::format::FormatFault;
 use forms::form::FormFault;
+use materials::refusal::RecordFault;
+use materials::refusal::Refusal;
 use std::alloc::AllocError;
 use std::io;
 use wiring::faults::ProgramFault;
@@ -12,6 +14,8 @@ pub enum Halt {
     Refused(u32),
     // Refused by a number at a node.
     AtNode(u32, usize),
+    // Refused by a number in a record of the file.
+    InRecord(u8, usize),
     // Memory ran out.
     Memory,
     // A line could not be printed.
@@ -30,6 +34,22 @@ pub impl From<FormFault> for Halt as HaltFromForm {
             Some(number) => Halt::Refused(number),
             None => Halt::Memory,
         }
+    }
+}
+
+pub impl From<Refusal> for Halt as HaltFromFile {
+    fn from(refusal: Refusal) -> Halt {
+        match (refusal.number(), refusal.record()) {
+            (Some(number), Some(record)) => Halt::InRecord(number, record),
+            (Some(number), None) => Halt::Refused(u32::from(number)),
+            (None, _) => Halt::Memory,
+        }
+    }
+}
+
+pub impl From<RecordFault> for Halt as HaltFromRecord {
+    fn from(fault: RecordFault) -> Halt {
+        Halt::Refused(u32::from(fault.number()))
     }
 }
 

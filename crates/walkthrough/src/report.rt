@@ -1,5 +1,10 @@
+use arithmetic::choice::OverflowChoice;
+use arithmetic::choice::RoundingChoice;
 use arithmetic::format::Format;
+use forms::form::Form;
 use kinds::values::Enclosed;
+use materials::letters::Choices;
+use materials::record::Record;
 use std::io;
 use wiring::graph::Node;
 use wiring::program::Program;
@@ -17,10 +22,53 @@ pub fn print_format(rt: &LibcRuntime, format: &Format) -> io::Result<()> {
         rt,
         "format {whole}.{fraction}: {whole} whole bits with the sign, {fraction} fraction bits, {bits} bits in all"
     )?;
-    println!(rt, "words from {low} to {high}, in steps of 1/{unit}")?;
+    println!(rt, "words from {low} to {high}, in steps of 1/{unit}")
+}
+
+// A record's name.
+fn print_name(rt: &LibcRuntime, name: &[u8]) -> io::Result<()> {
+    for b in name {
+        print!(rt, "{}", *b as char)?;
+    }
+    Ok(())
+}
+
+// How long the file is, and the names of its records.
+pub fn print_file(rt: &LibcRuntime, file: &[u8], records: &[Record]) -> io::Result<()> {
     println!(
         rt,
-        "products are rounded toward zero, overflow wraps around"
+        "a materials file of {} bytes with {} records:",
+        file.len(),
+        records.len()
+    )?;
+    for (i, record) in records.iter().enumerate() {
+        print!(rt, "  record {}: ", i.saturating_add(1))?;
+        print_name(rt, &record.name)?;
+        println!(rt, "")?;
+    }
+    Ok(())
+}
+
+// What the record's letters chose.
+pub fn print_choices(rt: &LibcRuntime, choices: Choices) -> io::Result<()> {
+    let form = match choices.form {
+        Form::Direct1 => "direct form 1",
+        Form::Direct2 => "direct form 2",
+        Form::Transposed2 => "transposed form 2",
+    };
+    let rounding = match choices.rounding {
+        RoundingChoice::Floor => "down",
+        RoundingChoice::Nearest => "to the nearest",
+        RoundingChoice::TowardZero => "toward zero",
+    };
+    let overflow = match choices.overflow {
+        OverflowChoice::Wrap => "wraps around",
+        OverflowChoice::Saturate => "saturates",
+        OverflowChoice::Stop => "stops the run",
+    };
+    println!(
+        rt,
+        "{form}; products are rounded {rounding}, overflow {overflow}"
     )
 }
 
@@ -33,7 +81,7 @@ pub fn print_coefficients(
     let steps = f64::from(1u32 << format.fraction());
     println!(
         rt,
-        "direct form 1, with the coefficients of the input first, then those of the output"
+        "the coefficients of the input, then those of the output"
     )?;
     for (i, c) in coefficients.iter().enumerate() {
         let worth = f64::from(*c) / steps;
@@ -78,7 +126,7 @@ pub fn print_wiring(rt: &LibcRuntime, program: &Program) -> io::Result<()> {
 }
 
 // A sample, its output and the registers after it.
-pub fn print_fed(
+pub fn print_step(
     rt: &LibcRuntime,
     sample: i32,
     output: Enclosed,

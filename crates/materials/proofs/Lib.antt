@@ -1,0 +1,12 @@
+pub mod Rows
+pub mod Words
+pub mod Bytes
+pub mod Places
+pub mod Writes
+pub mod Chains
+pub mod Turns
+pub mod Back
+pub mod Again
+pub mod Found
+pub mod Whole
+pub mod Numbered

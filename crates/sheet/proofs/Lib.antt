@@ -1,0 +1,9 @@
+pub mod Written
+pub mod Places
+pub mod Simulations
+pub mod Boxes
+pub mod Ran
+pub mod Compared
+pub mod Steps
+pub mod Verdicts
+pub mod Decisions
