@@ -1,10 +1,10 @@
 -- Rounds from zero come to the least closed box, or show that there is none; rounds with input 0 from a closed box lower its peaks.
 use mathlib.Core.Path.{_≡_, refl, sym, ap, subst, _∙_}
-use mathlib.Core.Logic.{_⊎_, ⊎-elim}
+use mathlib.Core.Logic.{⊎-elim}
 use mathlib.Core.List.{List, [], _∷_, map}
 use Prim.Native.Nat.{ℕ, zero, suc, _+_, _-_, _*_, _^_, _≤_, _<_}
 use native.Mathlib.Omega.{arith}
-use native.Mathlib.Nat.{add-zero, add-suc}
+use native.Mathlib.Nat.{add-zero}
 use lib.ListN.{length, getD}
 use lib.IntN.{ℤ, pos}
 use lib.Pow.{pow-mono}
@@ -15,8 +15,7 @@ use Rattle.std.proofs.shelf.Lists.{length-map, getD-map}
 use Rattle.arithmetic.specs.Settings.{Fixed-Point, Lawful, inner-bits}
 use Rattle.kinds.specs.declared.refusal.Refusal.{Refusal}
 use Rattle.kinds.specs.declared.values.Bound.{Bound}
-use Rattle.kinds.specs.Bounds.{bound-of, bound-arithmetic, peak-limit}
-use Rattle.wiring.specs.declared.faults.RunFault.{RunFault}
+use Rattle.kinds.specs.Bounds.{bound-arithmetic, peak-limit}
 use Rattle.wiring.specs.declared.faults.RunFault.the-variants.{Node as AtNode}
 use Rattle.wiring.specs.Graphs.{Graph}
 use Rattle.wiring.specs.Lists.{Each₂, none₂, more₂, All, all-none, all-more}
@@ -25,7 +24,7 @@ use Rattle.wiring.proofs.Simulation.{only, onward-out}
 use Rattle.sheet.specs.Rounds.{round, nth-box, new-registers, quiet-round, peak-arithmetic}
 use Rattle.sheet.specs.Sheets.{Below, Closed, Falls, rests, lowers, Nowhere}
 use Rattle.sheet.specs.Searching.{none, peaks-of, Exceeds, Raised, Lowered, Not-Lowered, Least}
-use Rattle.sheet.proofs.Places.{each-length, each-refl, each-flip, each-then, each-map, each-mapped, each-map-self, constant-below, total, total-below, total-less, total-within}
+use Rattle.sheet.proofs.Places.{each-length, each-refl, each-flip, each-then, each-map, each-mapped, each-map-self, constant-below, total, total-less, total-within}
 use Rattle.sheet.proofs.Simulations.{Goes₂, Related₂, Larger, Has-Peak, Small, point, simulation₂, box-simulates, peak-simulates, small-simulates}
 
 ok-err : {A E : Type 0} {r : Result A E} {x : A} {y : E} → r ≡ Ok x → r ≡ Err y → ⊥

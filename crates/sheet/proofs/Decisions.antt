@@ -1,16 +1,13 @@
 -- From the verdict under one checked setting to the answer of the call.
-use mathlib.Core.Path.{_≡_, refl, sym, ap, subst, _∙_}
+use mathlib.Core.Path.{_≡_, sym, subst, _∙_}
 use mathlib.Core.HLevel.{isProp→PathP}
 use mathlib.Core.List.{List}
 use native.Mathlib.Bridge.{le-prop}
 use Prim.Native.Nat.{ℕ, _+_, _≤_}
-use native.Mathlib.Omega.{arith}
-use borrow.Author.Tests.{leb-true}
-use lib.Dec.{leb}
 use lib.ListN.{length}
 use lib.IntN.{ℤ, natAbs}
 use Rattle.std.specs.declared.option.Option.{Option}
-use Rattle.std.specs.declared.option.Option.the-variants.{Some, None}
+use Rattle.std.specs.declared.option.Option.the-variants.{None}
 use Rattle.std.specs.declared.result.Result.{Result}
 use Rattle.std.specs.declared.result.Result.the-variants.{Ok, Err}
 use Rattle.std.specs.Options.{mapped}
@@ -22,11 +19,9 @@ use Rattle.arithmetic.specs.Rounding.{Rounding-Rule}
 use Rattle.arithmetic.specs.Overflow.{Overflow-Rule}
 use Rattle.arithmetic.specs.Settings.{meaning, Setting-Answer}
 use Rattle.wiring.specs.declared.faults.ProgramFault.the-variants.{Wiring}
-use Rattle.wiring.specs.declared.faults.WiringFault.the-variants.{NodeCount, RegisterCount}
 use Rattle.wiring.specs.Graphs.{Graph}
-use Rattle.wiring.specs.Checks.{unless, first, counts-fault, naming-fault, wiring-fault}
+use Rattle.wiring.specs.Checks.{first, wiring-fault}
 use Rattle.wiring.specs.Programs.{list-fault, program-fault}
-use Rattle.wiring.proofs.Soundness.{first-none, unless-none, and-out}
 use Rattle.sheet.specs.declared.figures.Figures.{Figures}
 use Rattle.sheet.specs.declared.figures.SheetFault.{SheetFault}
 use Rattle.sheet.specs.declared.figures.SheetFault.the-variants.{Format as OfFormat, Program, PeaksRow, CeilingsRow, BandRow, Range, Node}
@@ -51,19 +46,6 @@ same-point st p q a b =
     let r = a .3 ∙ sym (b .3) in
     let o = a .4 ∙ sym (b .4) in
     λ i. record { format = f i; rounding = r i; overflow = o i }
-
--- ---- the counts of a wiring without fault
-mapped-none : {A B : Type 0} (f : A → B) (o : Option A) → mapped f o ≡ None → o ≡ None
-mapped-none f None e = refl
-mapped-none f (Some a) e = absurd (let z : _≡_ {A = ℕ} 0 1 = cc in omega arith)
-
-pub counts-small : (f : Format) (g : Graph) (cs : List ℤ) → program-fault f g cs ≡ None → (length (g .nodes) ≤ 64) × (length (g .sources) ≤ 16)
-counts-small f g cs e =
-    let t = first-none (mapped Wiring (wiring-fault g)) (list-fault (width f) (g .coefficients) cs) e in
-    let n = first-none (counts-fault g) (naming-fault g) (mapped-none Wiring _ (t .0)) in
-    let a = first-none (unless _ NodeCount) _ (n .0) in
-    let b = first-none (unless _ RegisterCount) _ (a .1) in
-    (leb-true _ _ (and-out _ _ (unless-none _ _ (a .0)) .1), leb-true _ _ (unless-none _ _ (b .0)))
 
 -- ---- the whole check, from its parts
 module _ (k l : ℕ) (g : Graph) (cs : List ℤ) (lent : Rows) (x : ℤ) (f : Format) (whole : f .whole ≡ k) (fraction : f .fraction ≡ l) where

@@ -1,14 +1,12 @@
 -- What the runner answers and leaves, in terms of the run.
-use mathlib.Core.Path.{_≡_, refl, sym, ap, subst, _∙_}
-use mathlib.Core.Bool.{true}
+use mathlib.Core.Path.{_≡_, refl, sym, ap, _∙_}
 use mathlib.Core.List.{List, [], _∷_, _++_, map}
 use Prim.Native.Nat.{ℕ, zero, suc, _+_, _≤_, _<_}
 use native.Mathlib.Omega.{arith}
 use native.Mathlib.Nat.{add-zero}
 use lib.ListN.{length, getD, take, drop}
-use lib.IntN.{ℤ, pos}
+use lib.IntN.{ℤ}
 use borrow.Author.Tests.{le-leb}
-use Rattle.std.specs.declared.option.Option.the-variants.{Some, None}
 use Rattle.std.specs.declared.result.Result.{Result}
 use Rattle.std.specs.declared.result.Result.the-variants.{Ok, Err}
 use Rattle.std.proofs.shelf.Lists.{length-append, getD-append-left}
@@ -17,11 +15,10 @@ use Rattle.kinds.specs.Arithmetics.{Arithmetic}
 use Rattle.wiring.specs.declared.graph.Node.{Node}
 use Rattle.wiring.specs.declared.faults.RowFault.{RowFault}
 use Rattle.wiring.specs.declared.faults.RowFault.the-variants.{Registers, Working}
-use Rattle.wiring.specs.declared.faults.RunFault.{RunFault}
 use Rattle.wiring.specs.declared.faults.RunFault.the-variants.{Row, Node as AtNode}
 use Rattle.wiring.specs.Graphs.{Graph}
 use Rattle.wiring.specs.Checks.{unless, first}
-use Rattle.wiring.specs.Runs.{onward, at-node, node-value, work, Worked, taken, run, rows-fault, or-fault, attempt, answered, row-after}
+use Rattle.wiring.specs.Runs.{onward, at-node, node-value, work, Worked, taken, run, or-fault, attempt, answered, row-after}
 use Rattle.wiring.proofs.Simulation.{only, onward-out, onward-in}
 
 answered-ok : {A E : Type 0} (x : Result A E) (t : Unit {0}) → Ok t ≡ answered x → (a : A) × (x ≡ Ok a)

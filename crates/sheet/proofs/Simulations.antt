@@ -1,11 +1,10 @@
 -- The simulation lemma with one arithmetic beside the first, and its uses for rounds: a smaller box, the peaks alone, and how large peaks get.
-use mathlib.Core.Path.{_≡_, refl, sym, ap, subst, _∙_}
+use mathlib.Core.Path.{_≡_, refl, ap, _∙_}
 use mathlib.Core.Bool.{cond}
-use mathlib.Core.List.{List, [], _∷_, map}
-use Prim.Native.Nat.{ℕ, _+_, _*_, _^_, _≤_}
+use mathlib.Core.List.{List, map}
+use Prim.Native.Nat.{ℕ, _+_, _*_, _≤_}
 use native.Mathlib.Omega.{arith}
 use native.Mathlib.Nat.{mul-le-mul-left}
-use lib.Dec.{leb}
 use lib.IntN.{ℤ, pos, natAbs}
 use Rattle.std.specs.declared.result.Result.{Result}
 use Rattle.std.specs.declared.result.Result.the-variants.{Ok, Err}
@@ -19,9 +18,8 @@ use Rattle.kinds.specs.Bounds.{bound-of, bound-arithmetic, peak-limit, fitting,
 use Rattle.kinds.proofs.Facts.{leb-yes, up-part-rises, fraction-least, fraction-most}
 use Rattle.kinds.proofs.Parts.{fitting-is, fits, ceiling-is}
 use Rattle.wiring.specs.Graphs.{Graph}
-use Rattle.wiring.specs.Lists.{Each₂, none₂, more₂, Each₃, none₃, more₃, All, all-none, all-more}
+use Rattle.wiring.specs.Lists.{Each₂, none₂, more₂, Each₃, none₃, more₃}
 use Rattle.wiring.specs.Runs.{Worked, run}
-use Rattle.wiring.specs.declared.faults.RunFault.{RunFault}
 use Rattle.wiring.proofs.Simulation.{Simulates, simulation}
 use Rattle.sheet.specs.Rounds.{fitting-peak, peak-arithmetic}
 use Rattle.sheet.specs.Sheets.{Below}

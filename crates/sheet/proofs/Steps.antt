@@ -1,6 +1,6 @@
 -- The steps of the two loops, at rows.
 use mathlib.Core.Path.{_≡_, refl, sym, ap, subst, _∙_}
-use mathlib.Core.List.{List, [], _∷_, map, _++_}
+use mathlib.Core.List.{List, [], _∷_, map}
 use Prim.Native.Nat.{ℕ, zero, suc, _+_, _≤_, _<_}
 use native.Mathlib.Omega.{arith}
 use lib.ListN.{length, getD, take, drop, replicate}
@@ -8,6 +8,7 @@ use lib.IntN.{ℤ, pos}
 use Rattle.std.specs.declared.result.Result.the-variants.{Ok, Err}
 use Rattle.std.proofs.shelf.Lists.{length-map, length-append, length-drop, take-at}
 use Rattle.arithmetic.specs.Settings.{Fixed-Point, Lawful}
+use Rattle.kinds.specs.declared.refusal.Refusal.{Refusal}
 use Rattle.kinds.specs.declared.values.Bound.{Bound}
 use Rattle.kinds.specs.Bounds.{bound-arithmetic}
 use Rattle.wiring.specs.declared.program.Program.{Program}
@@ -19,7 +20,7 @@ use Rattle.sheet.specs.declared.figures.SheetFault.{SheetFault}
 use Rattle.sheet.specs.declared.figures.SheetFault.the-variants.{Format, Program as OfProgram, PeaksRow, CeilingsRow, BandRow, Range, Node}
 use Rattle.sheet.specs.Rounds.{round}
 use Rattle.sheet.specs.Sheets.{Below, Closed}
-use Rattle.sheet.specs.Searching.{none, program-graph, program-list, box-in, sources-in, peaks-of, Raised, Lowered, Not-Lowered, Holds, Least, Falls-To, Round-Answer, Search-Answer}
+use Rattle.sheet.specs.Searching.{none, At-Node, program-graph, program-list, box-in, sources-in, peaks-of, Raised, Lowered, Not-Lowered, Holds, Least, Falls-To, Round-Answer, Search-Answer}
 use Rattle.sheet.proofs.Places.{total}
 use Rattle.sheet.proofs.Boxes.{Met, Sunk, distance, met-more, met-closed, met-refused, nearer, closed-more, sinks, sunk-more, sunk-all}
 
@@ -93,16 +94,20 @@ module _ (s : Fixed-Point) (law : Lawful s) (g : Graph) (cs : List ℤ) (row aft
       (subst (λ l. Each₂ Not-Lowered (box-in g row) l) sources-are (subst (λ l. Each₂ Not-Lowered (take (length l) row) (sources-in ss after)) same h))
       (ap (λ (b : Bound). b .peak) (holds .output))
 
+-- what follows from a node's refusal
+at-node : {P Q : ℕ → Refusal → Type 0} → ((k : ℕ) (e : Refusal) → P k e → Q k e) → (f : SheetFault) → At-Node P f → At-Node Q f
+at-node h (Node k e) p = h k e p
+at-node h (Format f) p = p
+at-node h (OfProgram f) p = p
+at-node h PeaksRow p = p
+at-node h CeilingsRow p = p
+at-node h BandRow p = p
+at-node h Range p = p
+
 -- a round that refuses
 pub close-refused : (s : Fixed-Point) (law : Lawful s) (g : Graph) (cs : List ℤ) (X : ℕ) (u : ℤ) → u ≡ pos X → (row after : List Bound) → Met s g cs X (box-in g row)
     → (f : SheetFault) → Round-Answer s g cs u (box-in g row) (Err f) after → Search-Answer s g cs X (Err f) row after
-close-refused s law g cs X u at-X row after m (Node k e) h = met-refused s law g cs X (box-in g row) k e m (ap (λ (v : ℤ). run (bound-arithmetic s) g cs (box-in g row) v) (sym at-X) ∙ h)
-close-refused s law g cs X u at-X row after m (Format f) h = h
-close-refused s law g cs X u at-X row after m (OfProgram f) h = h
-close-refused s law g cs X u at-X row after m PeaksRow h = h
-close-refused s law g cs X u at-X row after m CeilingsRow h = h
-close-refused s law g cs X u at-X row after m BandRow h = h
-close-refused s law g cs X u at-X row after m Range h = h
+close-refused s law g cs X u at-X row after m = at-node (λ k e h. met-refused s law g cs X (box-in g row) k e m (ap (λ (v : ℤ). run (bound-arithmetic s) g cs (box-in g row) v) (sym at-X) ∙ h))
 
 -- a program's sources are nodes that are there
 pub sources-there : (p : Program) (ss : List ℕ) (row working : List Bound) → ss ≡ program-graph p .sources → length (program-graph p .sources) ≤ length row → length (program-graph p .nodes) ≤ length working

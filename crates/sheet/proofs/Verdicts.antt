@@ -1,31 +1,28 @@
 -- From the rounds to the verdict of a call.
-use mathlib.Core.Path.{_≡_, refl, sym, ap, subst, _∙_}
-use mathlib.Core.Bool.{Bool, true, false, _&&_}
-use mathlib.Core.List.{List, [], _∷_, map}
-use Prim.Native.Nat.{ℕ, zero, suc, _+_, _-_, _^_, _≤_, _<_}
+use mathlib.Core.Path.{_≡_, ap, _∙_}
+use mathlib.Core.Bool.{Bool, true}
+use mathlib.Core.List.{List}
+use Prim.Native.Nat.{ℕ, _-_, _≤_, _<_}
 use native.Mathlib.Nat.{sub-zero}
 use native.Mathlib.Omega.{arith}
 use borrow.Author.Differences.{ints}
 use borrow.Author.Tests.{leb-true}
 use lib.Dec.{T, leb}
-use lib.ListN.{length, getD, take, replicate}
+use lib.ListN.{length, getD, take}
 use lib.IntN.{ℤ, pos, natAbs}
-use lib.Signed.{leZ, ltZ, leZ-yes, ltZ-yes}
-use Rattle.std.specs.declared.option.Option.the-variants.{Some, None}
-use Rattle.std.specs.declared.result.Result.the-variants.{Ok, Err}
-use Rattle.std.proofs.shelf.Lists.{getD-default, length-replicate}
+use lib.Signed.{leZ-yes, ltZ-yes}
+use Rattle.std.specs.declared.option.Option.the-variants.{None}
+use Rattle.std.specs.declared.result.Result.the-variants.{Ok}
+use Rattle.std.proofs.shelf.Lists.{getD-default}
 use Rattle.arithmetic.specs.Words.{half}
 use Rattle.arithmetic.specs.Settings.{Fixed-Point, bits}
 use Rattle.kinds.specs.declared.values.Bound.{Bound}
 use Rattle.wiring.specs.Graphs.{Graph}
-use Rattle.wiring.specs.Checks.{unless, first}
+use Rattle.wiring.specs.Checks.{unless}
 use Rattle.wiring.proofs.Soundness.{first-none, unless-none, and-out}
-use Rattle.sheet.specs.declared.figures.Figures.{Figures}
-use Rattle.sheet.specs.declared.figures.SheetFault.{SheetFault}
-use Rattle.sheet.specs.declared.figures.SheetFault.the-variants.{Format, Program, PeaksRow, CeilingsRow, BandRow, Range, Node}
-use Rattle.sheet.specs.Sheets.{Sheet}
-use Rattle.sheet.specs.Searching.{none, over, box-in, peaks-of, ceilings-of, Least, Search-Answer, Falls-To}
-use Rattle.sheet.specs.Calls.{Rows, rows, in-range, call-fault, cleared, Verdict}
+use Rattle.sheet.specs.declared.figures.SheetFault.the-variants.{PeaksRow, CeilingsRow, BandRow}
+use Rattle.sheet.specs.Searching.{none, over, box-in, peaks-of, ceilings-of, Least, Falls-To}
+use Rattle.sheet.specs.Calls.{rows, in-range, call-fault, Verdict}
 
 of-true : (b : Bool) → b ≡ true → T b
 of-true b e = rw e tt
@@ -68,16 +65,6 @@ module _ (s : Fixed-Point) (g : Graph) (cs : List ℤ) (X : ℕ) (row row′ wor
     (λ i. record { peak = et i .peak; ceiling = et i .ceiling; count = n; band = el i .peak }),
     (λ i. rows (ep i) (ec i) (eb i)),
   )
-
-pub refused-verdict : (s : Fixed-Point) (g : Graph) (cs : List ℤ) (X : ℕ) (row working : List Bound) (f : SheetFault) → Search-Answer s g cs X (Err f) row working
-    → (before after : Rows) → after ≡ cleared (length (g .sources)) before → Verdict s g cs X before after (Err f)
-refused-verdict s g cs X row working (Node k e) h before after c = (h, c)
-refused-verdict s g cs X row working (Format f) h before after c = h
-refused-verdict s g cs X row working (Program f) h before after c = h
-refused-verdict s g cs X row working PeaksRow h before after c = h
-refused-verdict s g cs X row working CeilingsRow h before after c = h
-refused-verdict s g cs X row working BandRow h before after c = h
-refused-verdict s g cs X row working Range h before after c = h
 
 pub cut-is : {V : Type 0} (n m : ℕ) (xs : List V) → n ≡ m → take (n - 0) xs ≡ take m xs
 cut-is n m xs e = ap (λ k. take k xs) (sub-zero n ∙ e)

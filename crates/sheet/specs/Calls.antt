@@ -1,7 +1,7 @@
 -- What the call `sheet` answers, and what it leaves in the rows that are lent to it.
 use mathlib.Core.Path.{_≡_}
-use mathlib.Core.Bool.{Bool, true, false, _&&_}
-use mathlib.Core.List.{List, map, _++_}
+use mathlib.Core.Bool.{Bool, _&&_}
+use mathlib.Core.List.{List}
 use Prim.Native.Nat.{ℕ, _+_}
 use lib.Dec.{leb}
 use lib.ListN.{length, replicate}
@@ -19,7 +19,6 @@ use Rattle.arithmetic.specs.Formats.{format-fault, format-number}
 use Rattle.arithmetic.specs.Rounding.{Rounding-Rule}
 use Rattle.arithmetic.specs.Overflow.{Overflow-Rule}
 use Rattle.arithmetic.specs.Settings.{Fixed-Point, meaning, Setting-Answer}
-use Rattle.kinds.specs.declared.refusal.Refusal.{Refusal}
 use Rattle.kinds.specs.Arithmetics.{number}
 use Rattle.wiring.specs.declared.faults.ProgramFault.the-variants.{Wiring}
 use Rattle.wiring.specs.Graphs.{Graph}
@@ -29,7 +28,7 @@ use Rattle.sheet.specs.declared.figures.Figures.{Figures}
 use Rattle.sheet.specs.declared.figures.SheetFault.{SheetFault}
 use Rattle.sheet.specs.declared.figures.SheetFault.the-variants.{Format, Program, PeaksRow, CeilingsRow, BandRow, Range, Node}
 use Rattle.sheet.specs.Sheets.{Sheet, Granted, Nowhere}
-use Rattle.sheet.specs.Searching.{over, peaks-of, ceilings-of}
+use Rattle.sheet.specs.Searching.{At-Node, over, peaks-of, ceilings-of}
 
 -- the number of each fault
 abbrev pub sheet-number : SheetFault → ℕ
@@ -85,13 +84,7 @@ cleared n lent = rows (over (replicate n 0) (lent .peaks)) (over (replicate n 0)
 -- is told, and the register places hold zeros
 abbrev pub Verdict : Fixed-Point → Graph → List ℤ → ℕ → Rows → Rows → Result Figures SheetFault → Type 0
 Verdict s g cs X before after (Ok f) = (t : Sheet) × Granted s g cs X t × (f ≡ figures-of t) × (after ≡ shown t before)
-Verdict s g cs X before after (Err (Node k e)) = Nowhere s g cs X k e × (after ≡ cleared (length (g .sources)) before)
-Verdict s g cs X before after (Err (Format f)) = ⊥
-Verdict s g cs X before after (Err (Program f)) = ⊥
-Verdict s g cs X before after (Err PeaksRow) = ⊥
-Verdict s g cs X before after (Err CeilingsRow) = ⊥
-Verdict s g cs X before after (Err BandRow) = ⊥
-Verdict s g cs X before after (Err Range) = ⊥
+Verdict s g cs X before after (Err f) = At-Node (λ k e. Nowhere s g cs X k e × (after ≡ cleared (length (g .sources)) before)) f
 
 module _ {R O : Type 0} (r : R → Rounding-Rule) (o : O → Overflow-Rule) (st : Setting R O) (g : Graph) (cs : List ℤ) (x : ℤ) (before after : Rows) where
   -- the check finds a fault, and the rows stay

@@ -1,11 +1,10 @@
 -- What the steps of the search for a closed box answer and leave. A row holds a box in its first places, one for each register.
 use mathlib.Core.Path.{_≡_}
-use mathlib.Core.Bool.{Bool, true, false}
 use mathlib.Core.Logic.{_⊎_}
 use mathlib.Core.List.{List, map, _++_}
-use Prim.Native.Nat.{ℕ, zero, suc, _≤_, _<_}
-use lib.ListN.{length, getD, take, drop, replicate}
-use lib.IntN.{ℤ, pos}
+use Prim.Native.Nat.{ℕ, zero, _≤_, _<_}
+use lib.ListN.{length, getD, take, drop}
+use lib.IntN.{ℤ}
 use Rattle.std.specs.Of.Vec.{vec-items}
 use Rattle.std.specs.declared.result.Result.{Result}
 use Rattle.std.specs.declared.result.Result.the-variants.{Ok, Err}
@@ -13,8 +12,7 @@ use Rattle.arithmetic.specs.Settings.{Fixed-Point}
 use Rattle.kinds.specs.declared.refusal.Refusal.{Refusal}
 use Rattle.kinds.specs.declared.values.Bound.{Bound}
 use Rattle.kinds.specs.Bounds.{bound-of, bound-arithmetic}
-use Rattle.wiring.specs.declared.faults.RunFault.{RunFault}
-use Rattle.wiring.specs.declared.faults.RunFault.the-variants.{Node as AtNode}
+use Rattle.wiring.specs.declared.faults.RunFault.the-variants.{Node as OfRun}
 use Rattle.wiring.specs.declared.program.Program.{Program}
 use Rattle.wiring.specs.Graphs.{Graph, graph-of}
 use Rattle.wiring.specs.Lists.{Each₂}
@@ -33,6 +31,16 @@ program-graph p = graph-of (p .wiring)
 
 abbrev pub program-list : Program → List ℤ
 program-list p = vec-items (p .coefficients)
+
+-- the fault is a node's refusal, and P of the node and the refusal
+abbrev pub At-Node : (ℕ → Refusal → Type 0) → SheetFault → Type 0
+At-Node P (Node k e) = P k e
+At-Node P (Format f) = ⊥
+At-Node P (OfProgram f) = ⊥
+At-Node P PeaksRow = ⊥
+At-Node P CeilingsRow = ⊥
+At-Node P BandRow = ⊥
+At-Node P Range = ⊥
 
 -- xs in the first places of a row, the others as they were
 abbrev pub over : {V : Type 0} → List V → List V → List V
@@ -83,13 +91,7 @@ module _ (s : Fixed-Point) (g : Graph) (cs : List ℤ) where
   -- a round from the box, on the sample u
   abbrev pub Round-Answer : ℤ → List Bound → Result (Unit {0}) SheetFault → List Bound → Type 0
   Round-Answer u box (Ok _) working = (w : Worked Bound) × (run (bound-arithmetic s) g cs box u ≡ Ok w) × Holds g w working
-  Round-Answer u box (Err (Node k e)) working = run (bound-arithmetic s) g cs box u ≡ Err (AtNode k e)
-  Round-Answer u box (Err (Format f)) working = ⊥
-  Round-Answer u box (Err (OfProgram f)) working = ⊥
-  Round-Answer u box (Err PeaksRow) working = ⊥
-  Round-Answer u box (Err CeilingsRow) working = ⊥
-  Round-Answer u box (Err BandRow) working = ⊥
-  Round-Answer u box (Err Range) working = ⊥
+  Round-Answer u box (Err f) working = At-Node (λ k e. run (bound-arithmetic s) g cs box u ≡ Err (OfRun k e)) f
 
   -- the least closed box, met in rounds from zero, with the output in the round from it
   pub record Least (X : ℕ) (box : List Bound) (output : Bound) : Type 0 where
@@ -101,13 +103,7 @@ module _ (s : Fixed-Point) (g : Graph) (cs : List ℤ) where
   -- the search from zero: the row's box is then the least closed box and the working row has the output of the round from it
   abbrev pub Search-Answer : ℕ → Result (Unit {0}) SheetFault → List Bound → List Bound → Type 0
   Search-Answer X (Ok _) row working = Least X (box-in g row) (getD working (g .output) none)
-  Search-Answer X (Err (Node k e)) row working = Nowhere s g cs X k e
-  Search-Answer X (Err (Format f)) row working = ⊥
-  Search-Answer X (Err (OfProgram f)) row working = ⊥
-  Search-Answer X (Err PeaksRow) row working = ⊥
-  Search-Answer X (Err CeilingsRow) row working = ⊥
-  Search-Answer X (Err BandRow) row working = ⊥
-  Search-Answer X (Err Range) row working = ⊥
+  Search-Answer X (Err f) row working = At-Node (Nowhere s g cs X) f
 
   -- rounds with input 0 from the box in the row: how many lower a peak, the row's box after them, and the output peak of one more
   abbrev pub Falls-To : List Bound → ℕ → List Bound → List Bound → Type 0

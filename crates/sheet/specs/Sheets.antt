@@ -3,14 +3,12 @@ use mathlib.Core.Path.{_≡_}
 use mathlib.Core.List.{List, map}
 use Prim.Native.Nat.{ℕ, zero, suc, _-_, _≤_, _<_}
 use lib.ListN.{getD}
-use lib.IntN.{ℤ, pos}
-use Rattle.std.specs.declared.result.Result.{Result}
+use lib.IntN.{ℤ}
 use Rattle.std.specs.declared.result.Result.the-variants.{Ok, Err}
 use Rattle.arithmetic.specs.Words.{half}
 use Rattle.arithmetic.specs.Settings.{Fixed-Point, bits}
 use Rattle.kinds.specs.declared.refusal.Refusal.{Refusal}
 use Rattle.kinds.specs.declared.values.Bound.{Bound}
-use Rattle.wiring.specs.declared.faults.RunFault.{RunFault}
 use Rattle.wiring.specs.declared.faults.RunFault.the-variants.{Node as AtNode}
 use Rattle.wiring.specs.Graphs.{Graph}
 use Rattle.wiring.specs.Lists.{Each₂}

@@ -1,3 +1,5 @@
+ghost use mathlib.Core.Path.{_≡_};
+ghost use Rattle.sheet.specs.Calls.{sheet-number};
 use arithmetic::format::FormatFault;
 use arithmetic::format::FormatFaultDebug;
 use arithmetic::format::FormatFaultEq;
@@ -37,4 +39,19 @@ pub enum SheetFault {
     Range,
     // No box is closed: the first node that refused in rounds from zero.
     Node(usize, Refusal),
+}
+
+impl SheetFault {
+    // The number by which the fault is refused.
+    pub fn number(self) -> u32
+        ensures { λ r. ⌜ r ≡ sheet-number self ⌝ }
+    {
+        match self {
+            SheetFault::Format(fault) => fault.number(),
+            SheetFault::Program(fault) => fault.number(),
+            SheetFault::PeaksRow | SheetFault::CeilingsRow | SheetFault::BandRow => 15,
+            SheetFault::Range => 20,
+            SheetFault::Node(_, refusal) => refusal.number(),
+        }
+    }
 }

@@ -1,10 +1,10 @@
-use mathlib.Core.Path.{_≡_, sym, ap, subst, _∙_}
+use mathlib.Core.Path.{sym, ap, _∙_}
 use lib.IntN.{ℤ}
 use mir.Syntax.{w32}
 use mir.Val.{toZ, ofZ}
-use Rattle.std.specs.declared.result.Result.the-variants.{Ok, Err}
+use Rattle.std.specs.declared.result.Result.the-variants.{Err}
 use Rattle.std.proofs.shelf.Signed.{toZ-ofZ}
-use Rattle.arithmetic.specs.Settings.{Fixed-Point, meaning}
+use Rattle.arithmetic.specs.Settings.{meaning}
 use Rattle.kinds.specs.Bounds.{bound-arithmetic}
 use Rattle.wiring.specs.Runs.{run}
 use Rattle.wiring.proofs.Soundness.{sound-source, sound-output}

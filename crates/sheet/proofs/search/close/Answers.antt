@@ -1,14 +1,13 @@
-use mathlib.Core.Path.{_≡_, sym, ap, subst, _∙_}
-use Prim.Native.Nat.{ℕ, _≤_, _<_}
+use mathlib.Core.Path.{sym, ap, subst, _∙_}
 use native.Mathlib.Omega.{arith}
 use lib.IntN.{ℤ, pos, natAbs}
-use lib.ListN.{length, getD}
+use lib.ListN.{length}
 use mir.Syntax.{w32}
 use mir.Val.{toZ, ofZ}
 use Rattle.std.proofs.shelf.Results.{err-from-errBy}
 use Rattle.std.proofs.shelf.Signed.{toZ-ofZ}
-use Rattle.arithmetic.specs.Settings.{Fixed-Point, Lawful, meaning}
-use Rattle.sheet.specs.Searching.{program-graph, program-list, box-in, Search-Answer}
+use Rattle.arithmetic.specs.Settings.{Lawful, meaning}
+use Rattle.sheet.specs.Searching.{program-graph, program-list, box-in}
 use Rattle.sheet.proofs.Boxes.{Met, met-zero}
 use Rattle.sheet.proofs.Steps.{zeros-in, close-again, close-less, close-ends, close-refused, sources-there}
 use Rattle.sheet.proofs.search.close.Needs as need

@@ -1,11 +1,8 @@
-use mathlib.Core.Path.{_≡_, sym, ap, subst, _∙_}
-use Prim.Native.Nat.{ℕ, _+_, _≤_, _<_}
 use native.Mathlib.Omega.{arith}
-use lib.ListN.{length, getD}
+use lib.ListN.{length}
 use Rattle.std.proofs.shelf.Lists.{length-take}
-use Rattle.arithmetic.specs.Settings.{Fixed-Point, Lawful, meaning}
-use Rattle.sheet.specs.Searching.{program-graph, program-list, box-in, peaks-of}
-use Rattle.sheet.proofs.Places.{total}
+use Rattle.arithmetic.specs.Settings.{Lawful, meaning}
+use Rattle.sheet.specs.Searching.{program-graph, program-list, box-in}
 use Rattle.sheet.proofs.Boxes.{peaks-few}
 use Rattle.sheet.proofs.Steps.{settle-closed, settle-sunk, settle-less, settle-ends, sources-there}
 use Rattle.sheet.proofs.search.settle.Needs as need

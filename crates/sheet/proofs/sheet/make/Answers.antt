@@ -1,20 +1,18 @@
 use mathlib.Core.Path.{_≡_, refl, sym, ap, subst, _∙_}
-use mathlib.Core.List.{List}
-use Prim.Native.Nat.{ℕ, _≤_, _<_}
 use native.Mathlib.Omega.{arith}
 use lib.IntN.{ℤ, pos, natAbs}
-use lib.ListN.{length, getD, take, replicate}
+use lib.ListN.{length, getD, replicate}
 use mir.Syntax.{w32}
 use mir.Val.{toZ, ofZ}
 use Rattle.std.proofs.shelf.Signed.{toZ-ofZ}
 use Rattle.arithmetic.specs.Formats.{width}
-use Rattle.arithmetic.specs.Settings.{Fixed-Point, Lawful, meaning}
+use Rattle.arithmetic.specs.Settings.{Lawful, meaning}
 use Rattle.kinds.proofs.Parts.{same-bound}
 use Rattle.wiring.specs.Made.{register-count}
 use Rattle.wiring.proofs.Soundness.{sound-output}
 use Rattle.sheet.specs.Searching.{none, over, peaks-of, ceilings-of, program-graph, program-list, box-in, Least}
 use Rattle.sheet.proofs.Boxes.{quiet-closed, nth-small}
-use Rattle.sheet.proofs.Verdicts.{Fine, call-fine, read-at, granted-verdict, cut-is}
+use Rattle.sheet.proofs.Verdicts.{call-fine, read-at, granted-verdict, cut-is}
 use Rattle.sheet.proofs.sheet.make.Needs as need
 
 pub close-requires : need.close-requires

@@ -1,0 +1,3 @@
+// Tests of sheets.
+#[cfg(test)]
+mod tests;
