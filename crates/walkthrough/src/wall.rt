@@ -1,9 +1,10 @@
 ghost use mathlib.Core.Path.{_≡_};
-ghost use lib.IntN.{pos};
 ghost use lib.ListN.{replicate};
 ghost use Rattle.std.specs.Of.Vec.{vec-items};
 ghost use Rattle.std.specs.Vec.{made};
-ghost use Rattle.kinds.specs.Enclosures.{enclosed-of};
+ghost use Rattle.wiring.specs.Made.{node-count};
+ghost use Rattle.wiring.specs.Runs.{row-after};
+ghost use Rattle.walkthrough.specs.Steps.{wall-arithmetic, wall-attempt, stepped, registers-stepped};
 use arithmetic::choice::ChosenOverflow;
 use arithmetic::choice::ChosenRounding;
 use arithmetic::choice::OverflowChoice;
@@ -53,7 +54,11 @@ pub fn step(
     registers: &mut [Enclosed],
     working: &mut [Enclosed],
     sample: i32,
-) -> Result<Enclosed, RunFault> {
+) -> Result<Enclosed, RunFault>
+    ensures answer { λ r. ⌜ r ≡ stepped (now (setting .entry)) (now (program .entry)) (now (working .exit)) (wall-attempt (now (setting .entry)) (now (program .entry)) (now (registers .entry)) (now (working .entry)) sample) ⌝ }
+    ensures row { λ _. ⌜ now (working .exit) ≡ row-after (wall-arithmetic (now (setting .entry)) .zero) (node-count (now (program .entry))) (now (working .entry)) (wall-attempt (now (setting .entry)) (now (program .entry)) (now (registers .entry)) (now (working .entry)) sample) ⌝ }
+    ensures registers { λ _. ⌜ now (registers .exit) ≡ registers-stepped (now (setting .entry)) (now (program .entry)) (now (registers .entry)) (now (working .exit)) (wall-attempt (now (setting .entry)) (now (program .entry)) (now (registers .entry)) (now (working .entry)) sample) ⌝ }
+{
     program.work(&EnclosedKind, setting, registers, working, sample)?;
     program.take_registers(registers, working)?;
     Ok(working[program.output()])
