@@ -48,7 +48,7 @@ each-places R [] (y ∷ ys) a b e f = absurd (omega arith)
 each-places R (x ∷ xs) [] a b e f = absurd (omega arith)
 each-places R (x ∷ xs) (y ∷ ys) a b e f = more₂ (f 0 (omega arith)) (each-places R xs ys a b (omega arith) (λ i h. f (suc i) (omega arith)))
 
--- all entries are d, as many as there are
+-- one value at every place is related to every list of that length
 pub constant-below : {A B : Type 0} {R : A → B → Type 0} (a : A) → ((b : B) → R a b) → (ss : List ℕ) (ys : List B) → length ys ≡ length ss → Each₂ R (map (λ _. a) ss) ys
 constant-below a f [] [] e = none₂
 constant-below a f [] (y ∷ ys) e = absurd (omega arith)
