@@ -1,0 +1,10 @@
+pub mod Places
+pub mod Histories
+pub mod Watches
+pub mod Settling
+pub mod Covering
+pub mod Instances
+pub mod Sinking
+pub mod InBox
+pub mod Passing
+pub mod Final

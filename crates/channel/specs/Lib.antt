@@ -1,0 +1,4 @@
+pub mod Watches
+pub mod Channels
+pub mod References
+pub mod Theorem

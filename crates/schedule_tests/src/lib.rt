@@ -1,0 +1,3 @@
+//! Tests of the schedule.
+#[cfg(test)]
+mod tests;
