@@ -1,4 +1,6 @@
 // Fixed-point arithmetic: formats, words, rounding rules and overflow rules.
+#![tactic(auto)]
+
 pub mod choice;
 pub mod format;
 pub mod overflow;

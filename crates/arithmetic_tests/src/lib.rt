@@ -1,3 +1,5 @@
 // Worked examples of the fixed-point arithmetic.
+#![tactic(auto)]
+
 #[cfg(test)]
 mod tests;

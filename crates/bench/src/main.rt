@@ -1,5 +1,7 @@
 // Work for the comparison with C: feeds over words, feeds over enclosed values, sheets, and readings of a materials file, each as
 // often as the arguments say. The file is standard input; its first record is the filter.
+#![tactic(auto)]
+
 mod digest;
 mod feeds;
 mod readings;

@@ -1,4 +1,6 @@
 // Channels: a filter that runs for years on calls that nobody foresaw, and its watch.
+#![tactic(auto)]
+
 pub mod calls;
 pub mod channel;
 pub mod fault;

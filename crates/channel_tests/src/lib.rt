@@ -1,4 +1,6 @@
 // Tests of channels and their watch.
+#![tactic(auto)]
+
 #[cfg(test)]
 mod calls;
 #[cfg(test)]

@@ -1,4 +1,6 @@
 // Works the cases of standard input with the library, one to a line, and prints the answer of each.
+#![tactic(auto)]
+
 mod calls;
 mod fault;
 mod files;

@@ -1,4 +1,6 @@
 //! The same program on a record that has no sheet: the channel is opened without a watch.
+#![tactic(auto)]
+
 use console_text::program::run;
 use std::io;
 

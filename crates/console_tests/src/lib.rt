@@ -1,3 +1,5 @@
 //! Tests of the console's text.
+#![tactic(auto)]
+
 #[cfg(test)]
 mod tests;

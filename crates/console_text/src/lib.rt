@@ -1,4 +1,6 @@
 //! A console for channels: the lines that are typed, worked as calls of a channel, and the text that answers them.
+#![tactic(auto)]
+
 mod call;
 pub mod halt;
 mod pieces;

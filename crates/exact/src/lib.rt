@@ -1,4 +1,6 @@
 // Exact numbers, whole numbers over powers of two: definitions and laws that the other crates' contracts rest on.
+#![tactic(auto)]
+
 ghost use Rattle.exact.specs.Laws.{NumberLaws, EnclosureLaws};
 
 // Exact numbers keep the laws of numbers.

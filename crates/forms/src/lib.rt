@@ -1,4 +1,6 @@
 // The three usual forms of a recursive filter, built as wirings from its coefficients.
+#![tactic(auto)]
+
 pub mod build;
 mod direct1;
 mod direct2;

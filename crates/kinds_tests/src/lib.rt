@@ -1,4 +1,6 @@
 // Tests of the kinds of value, in format 4.4.
+#![tactic(auto)]
+
 #[cfg(test)]
 mod tests {
     use arithmetic::format::Coefficient;

@@ -1,4 +1,6 @@
 // A filter without damping and without input: no peak rises, but each round adds to the ceiling, until it is refused after about 33 million rounds.
+#![tactic(auto)]
+
 use arithmetic::overflow::Wrap;
 use arithmetic::rounding::TowardZero;
 use arithmetic::setting::Setting;

@@ -1,4 +1,6 @@
 //! The materials file: named filter records that are read from bytes, looked up and written.
+#![tactic(auto)]
+
 pub mod check;
 pub mod coefficients;
 pub mod directory;

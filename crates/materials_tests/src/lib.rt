@@ -1,4 +1,6 @@
 //! Tests of the materials file: every refusal, both edges of each limit, and both round trips.
+#![tactic(auto)]
+
 #[cfg(test)]
 mod builders;
 #[cfg(test)]

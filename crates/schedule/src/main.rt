@@ -1,4 +1,6 @@
 //! Reads a materials file from standard input and prints its schedule.
+#![tactic(auto)]
+
 use schedule_text::program::run;
 use std::io;
 

@@ -1,4 +1,6 @@
 //! The same program on a file that is refused: a byte too many.
+#![tactic(auto)]
+
 use schedule_text::program::run;
 use std::io;
 

@@ -1,3 +1,5 @@
 //! Tests of the schedule.
+#![tactic(auto)]
+
 #[cfg(test)]
 mod tests;

@@ -1,4 +1,6 @@
 // Sheets: the smallest closed box of a wiring, with its output figures, settling count and band.
+#![tactic(auto)]
+
 pub mod figures;
 mod round;
 mod rows;

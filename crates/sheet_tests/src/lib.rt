@@ -1,3 +1,5 @@
 // Tests of sheets.
+#![tactic(auto)]
+
 #[cfg(test)]
 mod tests;

@@ -1,4 +1,6 @@
 // Takes one wall from the materials file to its outputs, and prints each step.
+#![tactic(auto)]
+
 mod halt;
 mod report;
 mod wall;

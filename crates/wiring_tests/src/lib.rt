@@ -1,3 +1,5 @@
 // Tests of wirings, programs and the runner.
+#![tactic(auto)]
+
 #[cfg(test)]
 mod tests;

@@ -6,8 +6,8 @@ use Rattle.arithmetic.proofs.Fits.{word_fits_32, word_fits_64}
 use Rattle.arithmetic.specs.Turns.{wrapped_word, shifted}
 use Rattle.arithmetic.proofs.overflow.turned.Goals as goal
 
-pub overflow-cast-result-3 : goal.overflow-cast-result-3
-overflow-cast-result-3 c =
+pub overflow_cast-result-3 : goal.overflow_cast-result-3
+overflow_cast-result-3 c =
     let w = c.args.width.bits in
     let raw = c.args.raw in
     let k : c.bits-spare.result ≡ w = c.bits-spare.ensures in

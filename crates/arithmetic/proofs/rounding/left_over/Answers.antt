@@ -3,16 +3,16 @@ use Rattle.std.proofs.lemmas.Int.{to_z-of_z}
 use Rattle.arithmetic.proofs.Fits.{unit_is, quotient_fits, product_fits, remainder_fits}
 use Rattle.arithmetic.proofs.rounding.left_over.Goals as goal
 
-pub overflow-mul-result : goal.overflow-mul-result
-overflow-mul-result c =
+pub overflow_mul-result : goal.overflow_mul-result
+overflow_mul-result c =
     let l = c.args.l in
     let p = c.args.p in
     let fp : SFits w64 p = c.ranges.p in
     let fq = quotient_fits l c.requires p fp in
     simp (unit_is l c.requires, to_z-of_z) (product_fits l c.requires p fp)
 
-pub overflow-sub-result : goal.overflow-sub-result
-overflow-sub-result c =
+pub overflow_sub-result : goal.overflow_sub-result
+overflow_sub-result c =
     let l = c.args.l in
     let p = c.args.p in
     let fp : SFits w64 p = c.ranges.p in

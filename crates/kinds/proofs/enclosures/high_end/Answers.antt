@@ -5,14 +5,14 @@ use Rattle.std.proofs.lemmas.Int.{to_z-of_z, clamps}
 use Rattle.kinds.proofs.Numbers.{near_fits, high_bound, up_bound, up_by_is, minus_fits, minus_down_fits, up_fits}
 use Rattle.kinds.proofs.enclosures.high_end.Goals as goal
 
-pub overflow-add-result : goal.overflow-add-result
-overflow-add-result c = omega (arith, ints, clamps, c.max.ensures.value)
+pub overflow_add-result : goal.overflow_add-result
+overflow_add-result c = omega (arith, ints, clamps, c.max.ensures.value)
 
-pub overflow-sub-result : goal.overflow-sub-result
-overflow-sub-result c = omega (arith, ints, clamps, c.max.ensures.value)
+pub overflow_sub-result : goal.overflow_sub-result
+overflow_sub-result c = omega (arith, ints, clamps, c.max.ensures.value)
 
-pub overflow-sub-result-2 : goal.overflow-sub-result-2
-overflow-sub-result-2 c =
+pub overflow_sub-result-2 : goal.overflow_sub-result-2
+overflow_sub-result-2 c =
     let a = c.args.a in
     let b = c.args.b in
     let r = c.args.r in

@@ -6,8 +6,8 @@ use Rattle.exact.specs.Enclosures.{down_by}
 use Rattle.kinds.proofs.Numbers.{near_fits, low_bound, down_bound}
 use Rattle.kinds.proofs.enclosures.low_end.Goals as goal
 
-pub overflow-add-result : goal.overflow-add-result
-overflow-add-result c = omega (arith, ints, clamps, c.min.ensures.value)
+pub overflow_add-result : goal.overflow_add-result
+overflow_add-result c = omega (arith, ints, clamps, c.min.ensures.value)
 
 pub returns : goal.returns
 returns c =

@@ -3,8 +3,8 @@ use Rattle.std.proofs.lemmas.Int.{to_z-of_z}
 use Rattle.kinds.proofs.Numbers.{word_fits, near_fits, times_bound}
 use Rattle.kinds.proofs.enclosures.times.Goals as goal
 
-pub overflow-mul-result : goal.overflow-mul-result
-overflow-mul-result c =
+pub overflow_mul-result : goal.overflow_mul-result
+overflow_mul-result c =
     let a = c.args.c.value in
     let b = c.args.end in
     let fa : SFits w32 a = search rules in

@@ -7,12 +7,12 @@ use Rattle.kinds.proofs.Numbers.{far_moved}
 use Rattle.kinds.specs.Parts.{far}
 use Rattle.kinds.proofs.enclosures.with_ends_moved.Goals as goal
 
-pub returns-then-unsigned-abs-gt1125899906842624 : goal.returns-then-unsigned-abs-gt1125899906842624
-returns-then-unsigned-abs-gt1125899906842624 c =
+pub returns-then-unsigned_abs-gt1125899906842624 : goal.returns-then-unsigned_abs-gt1125899906842624
+returns-then-unsigned_abs-gt1125899906842624 c =
     let raw = c.args.raw in
     let z = c.args.word in
     let same = ap nat_abs (to_z-of_z w64 raw c.ranges.raw) in
-    let h : 2 ^ 50 < nat_abs raw = omega (arith, same, c.unsigned-abs.ensures.value) in
+    let h : 2 ^ 50 < nat_abs raw = omega (arith, same, c.unsigned_abs.ensures.value) in
     sym (far z (c.args.low +ℤ moved raw z) (c.args.high +ℤ moved raw z) (far_moved raw z c.args.low h c.ranges.word c.requires.first))
 
 pub returns : goal.returns
@@ -28,5 +28,5 @@ returns c =
     let l : SFits w64 (low +ℤ by) = omega (arith, ints, c.lost-by.ensures.bound, c.requires.first) in
     let h : SFits w64 (high +ℤ by) = omega (arith, ints, c.lost-by.ensures.bound, c.requires.second) in
     let b = simp to_z-of_z at c.lost-by.ensures.value in
-    let w = simp to_z-of_z at c.with-ends.ensures in
+    let w = simp to_z-of_z at c.with_ends.ensures in
     w ∙ ap (λ t. ended c.args.word (low +ℤ t) (high +ℤ t)) b

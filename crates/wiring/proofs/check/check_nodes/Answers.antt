@@ -10,7 +10,7 @@ returns-in-Some c =
 
 pub loop-k-preserved : goal.loop-k-preserved
 loop-k-preserved c =
-    c.loop-k.invariant ∙ scan_on (node_fault c.args.registers c.args.coefficients) c.args.nodes.now c.loop-k.k Input (omega arith) (sym c.fault.ensures ∙ c.in-default.is)
+    c.loop-k.invariant ∙ scan_on (node_fault c.args.registers c.args.coefficients) c.args.nodes.now c.loop-k.k Input (omega arith) (sym c.fault.ensures ∙ c.in_default.is)
 
 pub returns : goal.returns
 returns c = sym (c.loop-k.invariant ∙ scan_end (node_fault c.args.registers c.args.coefficients) c.args.nodes.now _ _ (omega arith))

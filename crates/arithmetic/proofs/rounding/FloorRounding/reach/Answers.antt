@@ -8,4 +8,4 @@ returns c =
     let l = c.args.format.now.fraction in
     let k : c.fraction.result ≡ l = c.fraction.ensures in
     let u : (1 * 2 ^ l) % 2 ^ 64 ≡ 2 ^ l = one_shl l 64 (omega arith) in
-    simp (k, u) at c.div-ceil.ensures ∙ up_quotient c.args.m (2 ^ l) (pow_pos l)
+    simp (k, u) at c.div_ceil.ensures ∙ up_quotient c.args.m (2 ^ l) (pow_pos l)

@@ -7,8 +7,8 @@ use Rattle.arithmetic.specs.Divisions.{floor_rest, divided_down, divided_up}
 use Rattle.arithmetic.proofs.Fits.{sum_and_difference_kept}
 use Rattle.arithmetic.proofs.rounding.NearestRounding.divide.Goals as goal
 
-pub overflow-sub-result : goal.overflow-sub-result
-overflow-sub-result c =
+pub overflow_sub-result : goal.overflow_sub-result
+overflow_sub-result c =
     let l = c.args.format.now.fraction in
     let p = c.args.p in
     let fp : SFits w64 p = c.ranges.p in

@@ -8,8 +8,8 @@ use Rattle.kinds.specs.Enclosures.{kept}
 use Rattle.kinds.proofs.Numbers.{quotient_is, remainder_is, remainder_near}
 use Rattle.kinds.proofs.enclosures.EnclosedKindKind.scale.Goals as goal
 
-pub low-end-requires : goal.low-end-requires
-low-end-requires g c =
+pub low_end-requires : goal.low_end-requires
+low_end-requires g c =
     let s = c.args.setting.now in
     let rule = g.R.Rounding.rule s.rounding in
     let sound = s.format.sound in
@@ -20,8 +20,8 @@ low-end-requires g c =
     let fb : SFits w64 c.times-b.result = search rules in
     record { first = simp to_z-of_z c.times-a.ensures.bound; second = simp to_z-of_z c.times-b.ensures.bound; rest = simp to_z-of_z k }
 
-pub high-end-requires : goal.high-end-requires
-high-end-requires g c =
+pub high_end-requires : goal.high_end-requires
+high_end-requires g c =
     let s = c.args.setting.now in
     let rule = g.R.Rounding.rule s.rounding in
     let sound = s.format.sound in
@@ -45,13 +45,13 @@ returns g c =
     let fr : SFits w64 c.divide-q.result.1 = search rules in
     let fa : SFits w64 c.times-a.result = search rules in
     let fb : SFits w64 c.times-b.result = search rules in
-    let fl : SFits w64 c.low-end.result = search rules in
-    let fh : SFits w64 c.high-end.result = search rules in
+    let fl : SFits w64 c.low_end.result = search rules in
+    let fh : SFits w64 c.high_end.result = search rules in
     let p = simp to_z-of_z at c.product.ensures.value in
     let q = quotient_is s.rounding l c.product.result c.divide-q.result f c.divide-q.ensures ∙ ap (s.rounding.quotient l) p in
     let r = remainder_is s.rounding l c.product.result c.divide-q.result f c.divide-q.ensures ∙ ap (λ n. remainder l n (s.rounding.quotient l n)) p in
     let a = simp to_z-of_z at c.times-a.ensures.value in
     let b = simp to_z-of_z at c.times-b.ensures.value in
-    let low = simp to_z-of_z at c.low-end.ensures.value ∙ (λ i. down_by (int_min (a i) (b i) +ℤ pos 4096 *ℤ r i) l) in
-    let high = simp to_z-of_z at c.high-end.ensures.value ∙ (λ i. up_by (int_max (a i) (b i) +ℤ pos 4096 *ℤ r i) l) in
+    let low = simp to_z-of_z at c.low_end.ensures.value ∙ (λ i. down_by (int_min (a i) (b i) +ℤ pos 4096 *ℤ r i) l) in
+    let high = simp to_z-of_z at c.high_end.ensures.value ∙ (λ i. up_by (int_max (a i) (b i) +ℤ pos 4096 *ℤ r i) l) in
     simp to_z-of_z at c.keep.ensures ∙ (λ i. kept s (q i) (low i) (high i))

@@ -5,10 +5,10 @@ use Rattle.wiring.specs.Programs.{list_fault}
 use Rattle.wiring.proofs.Soundness.{program_sound, no_program_fault}
 use Rattle.wiring.proofs.program.Program.new.Goals as goal
 
-pub invariant-of-result : goal.invariant-of-result
-invariant-of-result c =
+pub invariant_of-result : goal.invariant_of-result
+invariant_of-result c =
     let f = c.args.format.now in
     let g = graph_of c.args.wiring in
     let cs = vec_items c.args.coefficients in
-    let listed : list_fault (width f) g.coefficients cs ≡ None = subst (λ (xs : List ℤ). list_fault (width f) g.coefficients xs ≡ None) c.deref.ensures.value (sym c.in-default-check-list.ensures) in
-    (program_sound f g cs (no_program_fault f g cs (sym c.in-default.ensures) listed), tt)
+    let listed : list_fault (width f) g.coefficients cs ≡ None = subst (λ (xs : List ℤ). list_fault (width f) g.coefficients xs ≡ None) c.deref.ensures.value (sym c.in_default-check_list.ensures) in
+    record { sound = program_sound f g cs (no_program_fault f g cs (sym c.in_default.ensures) listed) }

@@ -4,9 +4,9 @@ use Rattle.wiring.specs.Programs.{sound}
 use Rattle.wiring.proofs.Soundness.{relisted}
 use Rattle.wiring.proofs.program.Program.put_coefficients.Goals as goal
 
-pub invariant-of-self : goal.invariant-of-self
-invariant-of-self c =
+pub invariant_of-self : goal.invariant_of-self
+invariant_of-self c =
     let p = c.args.self.now in
     let g = graph_of p.wiring in
-    let kept : sound g c.args.coefficients.now ≡ true = relisted c.args.format.now g (vec_items p.coefficients) c.args.coefficients.now p.sound (sym c.in-default.ensures) in
-    (subst (λ (cs : List ℤ). sound g cs ≡ true) (sym c.copy-from-slice.ensures.items) kept, tt)
+    let kept : sound g c.args.coefficients.now ≡ true = relisted c.args.format.now g (vec_items p.coefficients) c.args.coefficients.now p.sound (sym c.in_default.ensures) in
+    record { sound = subst (λ (cs : List ℤ). sound g cs ≡ true) (sym c.copy_from_slice.ensures.items) kept }

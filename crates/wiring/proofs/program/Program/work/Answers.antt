@@ -24,10 +24,10 @@ named_nodes p cs ns n e f q k h =
     let c : length cs ≡ p.wiring.coefficients = ap length e ∙ sound_count (graph_of p.wiring) (vec_items p.coefficients) p.sound in
     (λ i. node_fault (q i) (c i) k (get_or (f i) k Input)) ∙ sound_node (graph_of p.wiring) (vec_items p.coefficients) p.sound k (subst (λ l. k < length l) f h)
 
-pub work-nodes-requires : goal.work-nodes-requires
-work-nodes-requires g c =
+pub work_nodes-requires : goal.work_nodes-requires
+work_nodes-requires g c =
     let p = c.args.self.now in
-    let t = rows_long (graph_of p.wiring) (length c.args.registers.now) (length c.args.working.now) (sym c.in-default.ensures) in
+    let t = rows_long (graph_of p.wiring) (length c.args.registers.now) (length c.args.working.now) (sym c.in_default.ensures) in
     let n : c.len-count.result ≡ length (vec_items p.wiring.sources) = c.len-count.ensures ∙ p.wiring.sources.ok.0 in
     let room : length (vec_items p.wiring.nodes) ≤ length c.args.working.now = t.1 in
     let long : length (take (c.len-count.result - 0) c.args.registers.now) ≡ length (vec_items p.wiring.sources) = ap length (taken_front c.len-count.result _ c.args.registers.now n) ∙ length-take-le _ c.args.registers.now t.0 in
@@ -61,7 +61,7 @@ returns g c =
     let row = taken_front c.len-count.result _ c.args.registers.now n in
     let same = to_z-of_z w32 c.args.sample c.ranges.sample in
     record {
-      answer = handed_answer o _ _ _ _ _ _ _ _ (program_rows_fault p (length c.args.registers.now) (length c.args.working.now)) c.deref.ensures.value c.deref-2.ensures.value row same c.in-default.ensures _ c.work-nodes.ensures.answer;
-      row = handed_row o _ _ _ _ _ _ _ _ (program_rows_fault p (length c.args.registers.now) (length c.args.working.now)) c.deref.ensures.value c.deref-2.ensures.value row same c.in-default.ensures o.zero c.args.working.now _ c.work-nodes.ensures.row;
+      answer = handed_answer o _ _ _ _ _ _ _ _ (program_rows_fault p (length c.args.registers.now) (length c.args.working.now)) c.deref.ensures.value c.deref-2.ensures.value row same c.in_default.ensures _ c.work_nodes.ensures.answer;
+      row = handed_row o _ _ _ _ _ _ _ _ (program_rows_fault p (length c.args.registers.now) (length c.args.working.now)) c.deref.ensures.value c.deref-2.ensures.value row same c.in_default.ensures o.zero c.args.working.now _ c.work_nodes.ensures.row;
       covers = run_covers s lawful (g.K.Kind.model c.args.kind.now s) (g.met.K.Kind.lawful c.args.kind.now s lawful);
     }
