@@ -8,6 +8,6 @@ returns g c =
     let p = c.args.program in
     let z = (arithmetic g.K.Kind.model g.R.Rounding.rule g.O.Overflow.rule c.args.kind c.args.setting).zero in
     record {
-      channel = record { kind = refl; setting = refl; program = refl; watch = c.first-watch.ensures };
-      registers = cleared z (vec_items p.wiring.sources) c.args.registers.now c.zero-registers.new.registers _ c.requires c.zero-registers.ensures.registers;
+      channel = record { kind = refl; setting = refl; program = refl; watch = c.first_watch.ensures };
+      registers = cleared z (vec_items p.wiring.sources) c.args.registers.now c.zero_registers.new.registers _ c.requires c.zero_registers.ensures.registers;
     }

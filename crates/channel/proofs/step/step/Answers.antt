@@ -7,10 +7,10 @@ use Rattle.channel.proofs.Holding.{fault_none}
 use Rattle.channel.proofs.step.step.Goals as goal
 
 -- the output is a node, and the working row is as long as there are nodes
-pub offset-bounds-working-output : goal.offset-bounds-working-output
-offset-bounds-working-output g c =
+pub offset_bounds-working-output : goal.offset_bounds-working-output
+offset_bounds-working-output g c =
     let p = c.args.program.now in
-    let fine : program_rows_fault p (length c.args.registers.now) (length c.work.new.working) ≡ None = fault_none _ _ _ c.in-ok-take-registers.ensures.answer in
+    let fine : program_rows_fault p (length c.args.registers.now) (length c.work.new.working) ≡ None = fault_none _ _ _ c.in_ok-take_registers.ensures.answer in
     let t = rows_long (graph_of p.wiring) (length c.args.registers.now) (length c.work.new.working) fine in
     let o : p.wiring.output < length (vec_items p.wiring.nodes) = sound_output (graph_of p.wiring) (vec_items p.coefficients) p.sound in
     let long : length (vec_items p.wiring.nodes) ≤ length c.work.new.working = t.1 in

@@ -26,7 +26,7 @@ settle-count-requires g c =
     let p = c.args.program.now in
     let w = program_graph p in
     let X = nat_abs (to_z w32 (of_z w32 c.args.range)) in
-    let least = c.in-default.ensures in
+    let least = c.in_default.ensures in
     let registers = c.close.auto.registers in
     let working = c.close.auto.working in
     let many = c.requires.registers in
@@ -50,13 +50,13 @@ returns g c =
     let kept' = c.settle-count.auto.working in
     let n = ap length c.sources-n.ensures in
     let least : Least s w (program_list p) (nat_abs c.args.range) (box_in w c.close.new.registers) (get_or c.close.new.working w.output none) =
-    subst (λ (u : ℤ). Least s w (program_list p) (nat_abs u) (box_in w c.close.new.registers) (get_or c.close.new.working w.output none)) (to_z-of_z w32 c.args.range c.ranges.range) c.in-default.ensures in
+    subst (λ (u : ℤ). Least s w (program_list p) (nat_abs u) (box_in w c.close.new.registers) (get_or c.close.new.working w.output none)) (to_z-of_z w32 c.args.range c.ranges.range) c.in_default.ensures in
     granted_verdict s w (program_list p) (nat_abs c.args.range) c.close.new.registers c.settle-count.new.registers c.close.new.working c.settle-count.new.working c.settle-count.result
     fine.range least c.settle-count.ensures
     c.args.peaks.now c.args.ceilings.now c.args.band.now _ _ _
-    (c.write-peaks.ensures ∙ ap (λ l. over (peaks_of l) c.args.peaks.now) (cut_is (length c.sources-n.result.now) (length w.sources) c.close.new.registers n))
-    (c.write-ceilings.ensures ∙ ap (λ l. over (ceilings_of l) c.args.ceilings.now) (cut_is (length c.sources-n.result.now) (length w.sources) c.close.new.registers n))
-    (c.write-peaks-2.ensures ∙ ap (λ l. over (peaks_of l) c.args.band.now) (cut_is (length c.sources-n.result.now) (length w.sources) c.settle-count.new.registers n))
+    (c.write_peaks.ensures ∙ ap (λ l. over (peaks_of l) c.args.peaks.now) (cut_is (length c.sources-n.result.now) (length w.sources) c.close.new.registers n))
+    (c.write_ceilings.ensures ∙ ap (λ l. over (ceilings_of l) c.args.ceilings.now) (cut_is (length c.sources-n.result.now) (length w.sources) c.close.new.registers n))
+    (c.write_peaks-2.ensures ∙ ap (λ l. over (peaks_of l) c.args.band.now) (cut_is (length c.sources-n.result.now) (length w.sources) c.settle-count.new.registers n))
     _ _
     (read_at c.close.new.working c.output.result w.output c.index-working-output.result c.output.ensures (omega arith))
     (read_at c.settle-count.new.working c.output-2.result w.output c.index-working-output-2.result c.output-2.ensures (omega arith))

@@ -22,7 +22,7 @@ returns g c =
     let same = to_z-of_z w32 c.args.range c.ranges.range in
     let count : length c.sources-n.result.now ≡ length w.sources = ap length c.sources-n.ensures ∙ ap (λ (h : Graph). length h.sources) made.1 in
     let fine : call_fault (width q.format) (length w.sources) (length c.args.peaks.now) (length c.args.ceilings.now) (length c.args.band.now) c.args.range ≡ None
-    = (λ i. call_fault (width q.format) (sym count i) (length c.args.peaks.now) (length c.args.ceilings.now) (length c.args.band.now) (sym same i)) ∙ sym c.in-default.ensures in
+    = (λ i. call_fault (width q.format) (sym count i) (length c.args.peaks.now) (length c.args.ceilings.now) (length c.args.band.now) (sym same i)) ∙ sym c.in_default.ensures in
     let s = meaning g.R.Rounding.rule g.O.Overflow.rule q in
     let v : Verdict s (program_graph p) (program_list p) (nat_abs (to_z w32 (of_z w32 c.args.range))) before after c.make.result = c.make.ensures in
     decides g.R.Rounding.rule g.O.Overflow.rule st w cs c.args.range before after q known

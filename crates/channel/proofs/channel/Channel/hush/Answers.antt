@@ -9,19 +9,19 @@ use Rattle.channel.proofs.Holding.{fault_none, fault_some}
 use Rattle.channel.proofs.Hushes.{unless_some, hush_says, hush_row, hush_leaves, short_row, short_leaves}
 use Rattle.channel.proofs.channel.Channel.hush.Goals as goal
 
-pub returns-in-default : goal.returns-in-default
-returns-in-default g c =
+pub returns-in_default : goal.returns-in_default
+returns-in_default g c =
     let b = c.args.self.now in
     let rs = c.args.registers.now in
-    let rs' = c.zero-registers.new.registers in
-    let short : leb (registers_in b) (length rs) ≡ false = unless_some _ (Row Registers) _ (fault_some _ _ _ c.in-default.ensures.answer) in
+    let rs' = c.zero_registers.new.registers in
+    let short : leb (registers_in b) (length rs) ≡ false = unless_some _ (Row Registers) _ (fault_some _ _ _ c.in_default.ensures.answer) in
     let m = g.K.Kind.model in
     let r = g.R.Rounding.rule in
     let o = g.O.Overflow.rule in
     record {
       answer = ap answered (sym (hush_says m r o b b rs rs' (Row Registers) false short));
-      registers = short_row m r o b b rs rs' (Row Registers) c.zero-registers.ensures.registers short;
-      leaves = short_leaves m r o b b rs rs' (Row Registers) c.zero-registers.ensures.registers short refl refl;
+      registers = short_row m r o b b rs rs' (Row Registers) c.zero_registers.ensures.registers short;
+      leaves = short_leaves m r o b b rs rs' (Row Registers) c.zero_registers.ensures.registers short refl refl;
       same = record { kind = refl; setting = refl; wiring = refl; limits = refl };
     }
 
@@ -30,14 +30,14 @@ returns g c =
     let b = c.args.self.now in
     let after : Running g.row.K.Denot g.row.R.Denot g.row.O.Denot = record { kind = b.kind; setting = b.setting; program = b.program; watch = c.tell.new.watch } in
     let rs = c.args.registers.now in
-    let rs' = c.zero-registers.new.registers in
+    let rs' = c.zero_registers.new.registers in
     let long : leb (registers_in b) (length rs) ≡ true = unless_none _ (Row Registers) (fault_none _ _ _ c.in-Ok.ensures.answer) in
     let m = g.K.Kind.model in
     let r = g.R.Rounding.rule in
     let o = g.O.Overflow.rule in
     record {
       answer = ap answered (sym (hush_says m r o b after rs rs' (Row Registers) true long));
-      registers = hush_row m r o b after rs rs' (Row Registers) c.zero-registers.ensures.registers long;
-      leaves = hush_leaves m r o b after rs rs' (Row Registers) c.zero-registers.ensures.registers long refl c.tell.ensures.state;
+      registers = hush_row m r o b after rs rs' (Row Registers) c.zero_registers.ensures.registers long;
+      leaves = hush_leaves m r o b after rs rs' (Row Registers) c.zero_registers.ensures.registers long refl c.tell.ensures.state;
       same = record { kind = refl; setting = refl; wiring = refl; limits = c.tell.ensures.limits };
     }

@@ -16,7 +16,7 @@ returns c =
     let b : numerator_good nb ≡ true = search rules in
     let a : denominator_good na ≡ true = search rules in
     let g : graph_of c.match-self.wiring ≡ form_graph c.args.self nb na = search rules in
-    let cs : vec_items c.in-ok-coefficients.coefficients ≡ c.args.b.now ++ c.args.a.now = search rules in
+    let cs : vec_items c.in_ok-coefficients.coefficients ≡ c.args.b.now ++ c.args.a.now = search rules in
     let some = leb-true 1 nb (and_parts (leb 1 nb) (leb nb 9) b).0 in
     record {
       answer = (b, a, g, cs);
