@@ -4,7 +4,7 @@ use Rattle.std.proofs.lemmas.List.{get_or-drop, drop-drop, get_or-map, take_all,
 use Rattle.std.proofs.lemmas.Bool.{eqb-true, cases_lt}
 use Rattle.std.proofs.lemmas.Bool.Decides.{nat_tests, same_from_decides, Decides-eqb}
 use Rattle.std.proofs.lemmas.Slice.Eq.{slice_eq-Decides, bytes_eq-Decides}
-use Rattle.std.specs.Cmp.Lexicographic.{Matches}
+use Rattle.std.specs.Cmp.Lexicographic.{pointwise}
 use Rattle.std.specs.Str.{bytes_eq}
 use Rattle.materials.specs.Layout.{four_at, two_at}
 use Rattle.materials.specs.declared.refusal.Refusal.TheVariants.{PairOutOfPlace, FileEndOutOfPlace}
@@ -102,5 +102,5 @@ take_min n m xs e =
     (λ (h : length xs ≤ n). take_all m xs (omega arith) ∙ sym (take_all n xs h))
     (cases_lt n (length xs))
 
-pub same_test : (xs ys : List ℕ) (r : Bool) → Matches (λ (a b : ℕ) (t : Bool). Decides t (a ≡ b)) xs ys r → r ≡ bytes_eq xs ys
+pub same_test : (xs ys : List ℕ) (r : Bool) → r ≡ pointwise eqb xs ys → r ≡ bytes_eq xs ys
 same_test xs ys r h = same_from_decides r (bytes_eq xs ys) (slice_eq-Decides Decides-eqb xs ys r h) (bytes_eq-Decides xs ys)

@@ -4,12 +4,12 @@ use Rattle.materials.specs.Files.{parts}
 use Rattle.materials.proofs.Turns.{length_parts, names_more, names_all}
 use Rattle.materials.proofs.check.name_used.Goals as goal
 
-pub returns-then-same-bytes : goal.returns-then-same-bytes
-returns-then-same-bytes c =
+pub returns-then-same_bytes : goal.returns-then-same_bytes
+returns-then-same_bytes c =
     let ps = parts c.args.file.now in
     let h : c.args.i ≤ length ps = omega (arith, length_parts c.args.file.now) in
-    let k = c.part-name.ensures ∙ ap name_of c.part-of.ensures in
-    let t = c.same-bytes.ensures in
+    let k = c.part_name.ensures ∙ ap name_of c.part_of.ensures in
+    let t = c.same_bytes.ensures in
     let m = names_more part_fault name_of ps [] c.args.i c.loop-j.j c.args.name.now h (omega arith) in
     grind arith
 
@@ -17,8 +17,8 @@ pub loop-j-preserved : goal.loop-j-preserved
 loop-j-preserved c =
     let ps = parts c.args.file.now in
     let h : c.args.i ≤ length ps = omega (arith, length_parts c.args.file.now) in
-    let k = c.part-name.ensures ∙ ap name_of c.part-of.ensures in
-    let t = c.same-bytes.ensures in
+    let k = c.part_name.ensures ∙ ap name_of c.part_of.ensures in
+    let t = c.same_bytes.ensures in
     let m = names_more part_fault name_of ps [] c.args.i c.loop-j.j c.args.name.now h (omega arith) in
     grind arith
 

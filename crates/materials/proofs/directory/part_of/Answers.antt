@@ -3,8 +3,8 @@ use Rattle.materials.specs.Files.{directory}
 use Rattle.materials.proofs.Places.{sound, get_or_parts, part_inside}
 use Rattle.materials.proofs.directory.part_of.Goals as goal
 
-pub slice-bounds-result-end : goal.slice-bounds-result-end
-slice-bounds-result-end c =
+pub slice_bounds-result-end : goal.slice_bounds-result-end
+slice_bounds-result-end c =
     let f = c.args.file.now in
     let i = c.args.i in
     let o = ap (λ p. p.0) c.pair-offset.ensures in

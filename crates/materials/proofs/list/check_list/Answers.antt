@@ -16,19 +16,19 @@ returns-in-Err c =
     ap (λ o. or_else o (list_fault rs)) (cond-true (leb (length rs) 512) None (Some RecordCount) (le-leb (length rs) 512 (omega arith)))
     ∙ (sym c.loop-i.invariant.0 ∙ stops_own record_fault called rs x c.loop-i.i c.loop-i-test.true _ (ap record_fault (sym c.index-records-i.is) ∙ c.in-Err.ensures))
 
-pub returns-then-name-taken : goal.returns-then-name-taken
-returns-then-name-taken c =
+pub returns-then-name_taken : goal.returns-then-name_taken
+returns-then-name_taken c =
     let rs = c.args.records.now in
     let x = c.index-records-i.result in
     ap (λ o. or_else o (list_fault rs)) (cond-true (leb (length rs) 512) None (Some RecordCount) (le-leb (length rs) 512 (omega arith)))
-    ∙ (sym c.loop-i.invariant.0 ∙ stops_name record_fault called rs x c.loop-i.i c.loop-i-test.true _ (ap record_fault (sym c.index-records-i.is) ∙ c.in-Ok.ensures) c.if-name-taken.ensures (c.as-slice.ensures.value ∙ ap called c.index-records-i.is))
+    ∙ (sym c.loop-i.invariant.0 ∙ stops_name record_fault called rs x c.loop-i.i c.loop-i-test.true _ (ap record_fault (sym c.index-records-i.is) ∙ c.in-Ok.ensures) c.if-name_taken.ensures (c.as_slice.ensures.value ∙ ap called c.index-records-i.is))
 
 pub loop-i-preserved : goal.loop-i-preserved
 loop-i-preserved c =
     let rs = c.args.records.now in
     let x = c.index-records-i.result in
     let n = length_next bytes_of rs c.loop-i.i x c.loop-i-test.true c.index-records-i.is in
-    (sym (goes_on record_fault called rs x c.loop-i.i c.loop-i-test.true _ (ap record_fault (sym c.index-records-i.is) ∙ c.in-Ok.ensures) c.if-name-taken.ensures (c.as-slice.ensures.value ∙ ap called c.index-records-i.is)) ∙ c.loop-i.invariant.0, omega arith, omega arith)
+    (sym (goes_on record_fault called rs x c.loop-i.i c.loop-i-test.true _ (ap record_fault (sym c.index-records-i.is) ∙ c.in-Ok.ensures) c.if-name_taken.ensures (c.as_slice.ensures.value ∙ ap called c.index-records-i.is)) ∙ c.loop-i.invariant.0, omega arith, omega arith)
 
 pub returns : goal.returns
 returns c =

@@ -3,13 +3,13 @@ use Rattle.materials.specs.Layout.{meaning}
 use Rattle.materials.proofs.Chains.{bounded, length_encoded}
 use Rattle.materials.proofs.list.record_length.Goals as goal
 
-pub overflow-mul-result : goal.overflow-mul-result
-overflow-mul-result c =
+pub overflow_mul-result : goal.overflow_mul-result
+overflow_mul-result c =
     let b = bounded (meaning c.args.item.now) c.requires in
     search rules
 
-pub overflow-add-result-3 : goal.overflow-add-result-3
-overflow-add-result-3 c =
+pub overflow_add-result-3 : goal.overflow_add-result-3
+overflow_add-result-3 c =
     let b = bounded (meaning c.args.item.now) c.requires in
     search rules
 

@@ -8,13 +8,13 @@ use Rattle.materials.proofs.part.examine.Goals as goal
 use Rattle.std.proofs.lemmas.Result.{MatchResult-weaker}
 use Rattle.materials.specs.declared.refusal.RecordFault.TheVariants.{NameByte}
 
-pub returns-then-not-all-printable : goal.returns-then-not-all-printable
-returns-then-not-all-printable c =
+pub returns-then-not-all_printable : goal.returns-then-not-all_printable
+returns-then-not-all_printable c =
     let p = c.args.part.now in
     let some : 1 ≤ length p = search rules in
     let long : get_or p 0 0 + 8 ≤ length p = search rules in
-    let n : c.split-at.result.0.now ≡ name_of p = c.split-at.ensures.front ∙ ap (take (get_or p 0 0)) (take_rest p 1) in
-    let k = c.if-not-all-printable.ensures in
+    let n : c.split_at.result.0.now ≡ name_of p = c.split_at.ensures.front ∙ ap (take (get_or p 0 0)) (take_rest p 1) in
+    let k = c.if-not-all_printable.ensures in
     let r : first (name_rows (shape p) (name_of p)) ≡ Some NameByte = grind (arith, nat_tests) in
     part_stops p NameByte r
 
@@ -23,11 +23,11 @@ returns c =
     let p = c.args.part.now in
     let some : 1 ≤ length p = search rules in
     let long : get_or p 0 0 + 8 ≤ length p = search rules in
-    let n : c.split-at.result.0.now ≡ name_of p = c.split-at.ensures.front ∙ ap (take (get_or p 0 0)) (take_rest p 1) in
-    let t : c.split-at.result.1.now ≡ tail_of p = c.split-at.ensures.back ∙ ap (drop (get_or p 0 0)) (take_rest p 1) in
-    let k = c.if-not-all-printable.ensures in
+    let n : c.split_at.result.0.now ≡ name_of p = c.split_at.ensures.front ∙ ap (take (get_or p 0 0)) (take_rest p 1) in
+    let t : c.split_at.result.1.now ≡ tail_of p = c.split_at.ensures.back ∙ ap (drop (get_or p 0 0)) (take_rest p 1) in
+    let k = c.if-not-all_printable.ensures in
     let r : first (name_rows (shape p) (name_of p)) ≡ None = grind (arith, nat_tests) in
     let e = part_past p r ∙ ap tail_fault (sym t) in
-    MatchResult-weaker c.examine-tail.result c.examine-tail.ensures
+    MatchResult-weaker c.examine_tail.result c.examine_tail.ensures
     (λ f h. (e ∙ h.0, h.1 ∙ (λ i. material_of (n i) (t i))))
     (λ x h. e ∙ h)

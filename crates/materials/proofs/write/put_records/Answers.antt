@@ -10,14 +10,14 @@ use Rattle.materials.proofs.write.put_records.Goals as goal
 pub loop-item-init : goal.loop-item-init
 loop-item-init c = puts_none c.args.destination.now c.args.at (omega arith)
 
-pub put-record-end-requires : goal.put-record-end-requires
-put-record-end-requires c =
+pub put_record-end-requires : goal.put_record-end-requires
+put_record-end-requires c =
     let r = room_next bytes_of c.args.records.now c.loop-item.item-index c.item-item.result c.loop-item-test.true c.item-item.is in
     record { good = ap record_fault c.item-item.is ∙ All-get_or (λ x. record_fault x ≡ None) c.args.records.now c.loop-item.item-index c.item-item.result c.loop-item-test.true c.requires.good; room = omega arith }
 
 pub loop-item-preserved : goal.loop-item-preserved
 loop-item-preserved c =
-    subst (λ bs. Puts c.args.destination.now c.args.at bs c.put-record-end.new.destination c.put-record-end.result) (joined_next bytes_of c.args.records.now c.loop-item.item-index c.item-item.result c.loop-item-test.true c.item-item.is) (puts_more c.loop-item.invariant c.put-record-end.ensures)
+    subst (λ bs. Puts c.args.destination.now c.args.at bs c.put_record-end.new.destination c.put_record-end.result) (joined_next bytes_of c.args.records.now c.loop-item.item-index c.item-item.result c.loop-item-test.true c.item-item.is) (puts_more c.loop-item.invariant c.put_record-end.ensures)
 
 pub returns : goal.returns
 returns c = subst (λ rs. Puts c.args.destination.now c.args.at (flat_map bytes_of rs) c.loop-item.destination c.loop-item.end) (take_all c.loop-item.item-index c.args.records.now c.loop-item-test.false) c.loop-item.invariant

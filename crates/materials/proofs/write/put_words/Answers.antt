@@ -12,7 +12,7 @@ loop-z-init c = puts_none c.args.destination.now c.args.at (omega arith)
 pub put-end-requires : goal.put-end-requires
 put-end-requires c =
     let n = length_coded_take c.args.words.now c.loop-z.z-index (omega arith) in
-    let l : length c.to-be-bytes.result ≡ 4 = ap length c.to-be-bytes.ensures in
+    let l : length c.to_be_bytes.result ≡ 4 = ap length c.to_be_bytes.ensures in
     omega arith
 
 pub loop-z-preserved : goal.loop-z-preserved
@@ -21,8 +21,8 @@ loop-z-preserved c =
     let i = c.loop-z.z-index in
     let n = length_coded_take zs i (omega arith) in
     let f : SFits w32 (get_or zs i (pos 0)) = search rules in
-    let e = c.to-be-bytes.ensures ∙ ap coded (to_z-of_z w32 (get_or zs i (pos 0)) f) in
-    subst (λ bs. Puts c.args.destination.now c.args.at bs c.put-end.new.destination c.put-end.result) (coded_more zs i c.to-be-bytes.result (omega arith) e) (puts_more c.loop-z.invariant c.put-end.ensures)
+    let e = c.to_be_bytes.ensures ∙ ap coded (to_z-of_z w32 (get_or zs i (pos 0)) f) in
+    subst (λ bs. Puts c.args.destination.now c.args.at bs c.put-end.new.destination c.put-end.result) (coded_more zs i c.to_be_bytes.result (omega arith) e) (puts_more c.loop-z.invariant c.put-end.ensures)
 
 pub returns : goal.returns
 returns c = subst (λ zs. Puts c.args.destination.now c.args.at (flat_map coded zs) c.loop-z.destination c.loop-z.end) (take_all c.loop-z.z-index c.args.words.now c.loop-z-test.false) c.loop-z.invariant
