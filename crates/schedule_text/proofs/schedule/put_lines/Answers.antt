@@ -18,10 +18,10 @@ pub loop-item-preserved : goal.loop-item-preserved
 loop-item-preserved c =
     let x = c.item-item.result in
     let n = vec_items x.name in
-    let t : vec_items c.put-line.new.text ≡ vec_items c.loop-item.text ++ line n c.in-ok-outcome.outcome
-    = c.in-ok-put-line.ensures ∙ ap (λ b. vec_items c.loop-item.text ++ line b c.in-ok-outcome.outcome) c.as-slice.ensures.value in
-    lines_more c.args.records.now c.loop-item.item-index x (vec_items c.args.text.now) (vec_items c.loop-item.text) (vec_items c.put-line.new.text) c.in-ok-outcome.outcome
-    c.loop-item-test.true c.item-item.is c.loop-item.invariant c.in-ok-outcome.ensures t
+    let t : vec_items c.put_line.new.text ≡ vec_items c.loop-item.text ++ line n c.in_ok-outcome.outcome
+    = c.in_ok-put_line.ensures ∙ ap (λ b. vec_items c.loop-item.text ++ line b c.in_ok-outcome.outcome) c.as_slice.ensures.value in
+    lines_more c.args.records.now c.loop-item.item-index x (vec_items c.args.text.now) (vec_items c.loop-item.text) (vec_items c.put_line.new.text) c.in_ok-outcome.outcome
+    c.loop-item-test.true c.item-item.is c.loop-item.invariant c.in_ok-outcome.ensures t
 
 pub returns : goal.returns
 returns c = subst (λ rs. LinesOf (map meaning rs) (vec_items c.args.text.now) (vec_items c.loop-item.text)) (take_all c.loop-item.item-index c.args.records.now c.loop-item-test.false) c.loop-item.invariant
