@@ -50,10 +50,10 @@ pub(crate) fn read_call<V: Copy>(
 ) -> Result<Option<Call<V>>, AllocError>
     ensures { IfOk result (λ c. Asks registers nodes line.now c) }
 {
-    if line == b"hush" {
+    if line == b"hush".as_slice() {
         return Ok(Some(Call::Hush { registers }));
     }
-    if line == b"swap" {
+    if line == b"swap".as_slice() {
         return Ok(Some(Call::Swap(Vec::new(heap))));
     }
     if let Some(rest) = line.strip_prefix(b"feed ") {

@@ -16,13 +16,13 @@ returns-then-eq g c = (refl, (slice_eq-Decides Decides-eqb _ _ _ c.eq.ensures).0
 pub returns-then-eq-2 : goal.returns-then-eq-2
 returns-then-eq-2 g c = inl ((slice_eq-Decides Decides-eqb _ _ _ c.eq-2.ensures).0 c.if-eq-2.true, c.new.ensures.items)
 
-pub returns-in-Some-strip-prefix : goal.returns-in-Some-strip-prefix
-returns-in-Some-strip-prefix g c =
+pub returns-in-Some-strip_prefix : goal.returns-in-Some-strip_prefix
+returns-in-Some-strip_prefix g c =
     let line = c.args.line.now in
-    let rest = c.in-Some-strip-prefix.rest in
-    let is : line ≡ codes "swap " ++ rest.now = strip_prefix_is Decides-eqb line (codes "swap ") (Some rest) c.in-Some-strip-prefix.ensures.cases in
-    let texts : map vec_items c.as-slice.result.now ≡ pieces 32 rest.now = ap (map vec_items) c.as-slice.ensures.value ∙ c.in-ok-texts.ensures in
-    let says : NumbersOf (pieces 32 rest.now) c.in-ok-coefficients.field-0 = subst (λ ts. NumbersOf ts c.in-ok-coefficients.field-0) texts c.in-ok-coefficients.ensures in
+    let rest = c.in-Some-strip_prefix.rest in
+    let is : line ≡ codes "swap " ++ rest.now = strip_prefix_is Decides-eqb line (codes "swap ") (Some rest) c.in-Some-strip_prefix.ensures.cases in
+    let texts : map vec_items c.as_slice.result.now ≡ pieces 32 rest.now = ap (map vec_items) c.as_slice.ensures.value ∙ c.in_ok-texts.ensures in
+    let says : NumbersOf (pieces 32 rest.now) c.in_ok-coefficients.field-0 = subst (λ ts. NumbersOf ts c.in_ok-coefficients.field-0) texts c.in_ok-coefficients.ensures in
     elim c.match-branch-4.branch [
       | in-Some-2 w ↦ subst (λ a. IfOk a (Asks c.args.registers c.args.nodes line)) (sym w.result-is) (inr (rest.now, is, subst (NumbersOf (pieces 32 rest.now)) w.in-Some-2.is says))
       | in-None-2 w ↦ subst (λ a. IfOk a (Asks c.args.registers c.args.nodes line)) (sym w.result-is) (no_swap c.args.registers c.args.nodes line rest.now is (subst (NumbersOf (pieces 32 rest.now)) w.in-None-2.is says))

@@ -13,10 +13,10 @@ loop-byte-preserved c =
     elim c.if-byte-at.branch [
       | then-byte-at+in-ok-push w ↦
           cut_ends c.args.at c.args.text.now c.loop-byte.byte-index c.loop-byte-test.true v (vec_items c.if-byte-at.ended) b c.if-byte-at.rest c.loop-byte.invariant
-          w.if-byte-at.true (ap vec_items w.ended-is ∙ w.in-ok-push.ensures.items) (ap vec_items w.rest-is ∙ w.new-rest-then-byte-at.ensures.items)
+          w.if-byte-at.true (ap vec_items w.ended-is ∙ w.in_ok-push.ensures.items) (ap vec_items w.rest-is ∙ w.new-rest-then-byte-at.ensures.items)
       | else-byte-at+in-ok-push-2 w ↦
           cut_goes_on c.args.at c.args.text.now c.loop-byte.byte-index c.loop-byte-test.true v (vec_items c.if-byte-at.ended) b c.if-byte-at.rest c.loop-byte.invariant
-          w.if-byte-at.false (ap vec_items w.ended-is) (ap vec_items w.rest-is ∙ w.in-ok-push-2.ensures.items)
+          w.if-byte-at.false (ap vec_items w.ended-is) (ap vec_items w.rest-is ∙ w.in_ok-push-2.ensures.items)
     ]
 
 pub returns : goal.returns

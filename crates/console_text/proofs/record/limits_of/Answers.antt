@@ -9,8 +9,8 @@ use Rattle.console_text.proofs.record.limits_of.Goals as goal
 pub returns : goal.returns
 returns c =
     let m = meaning c.args.item.now in
-    let filter = c.in-ok-filter.filter in
-    let built = c.in-ok-filter.ensures in
-    let bits = c.in-ok-format.ensures in
-    limits_same c.args.setting.now (graph_of filter.wiring) (wiring_in m c.args.form) (vec_items filter.coefficients) (coefficients_in m) _ (pos (range_in (m.whole + m.fraction))) c.sheet-limits.result
-    built.0 built.1 (to_z-of_z w32 c.range-of-range.result (search rules) ∙ (c.range-of-range.ensures ∙ (λ i. pos (range_in (bits.1 i + bits.2 i))))) c.sheet-limits.ensures
+    let filter = c.in_ok-filter.filter in
+    let built = c.in_ok-filter.ensures in
+    let bits = c.in_ok-format.ensures in
+    limits_same c.args.setting.now (graph_of filter.wiring) (wiring_in m c.args.form) (vec_items filter.coefficients) (coefficients_in m) _ (pos (range_in (m.whole + m.fraction))) c.sheet_limits.result
+    built.0 built.1 (to_z-of_z w32 c.range_of-range.result (search rules) ∙ (c.range_of-range.ensures ∙ (λ i. pos (range_in (bits.1 i + bits.2 i))))) c.sheet_limits.ensures

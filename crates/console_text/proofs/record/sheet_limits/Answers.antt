@@ -10,7 +10,7 @@ returns-in-Ok c =
     let filter = c.args.filter in
     limits_granted c.args.setting.now (graph_of filter.wiring) (vec_items filter.coefficients) _ c.args.range (to_z-of_z w32 c.args.range (search rules))
     (rows c.sheet-answer.new.peaks c.sheet-answer.new.ceilings c.sheet-answer.new.band)
-    c.in-Ok.figures _ _ c.in-Ok.ensures (c.unsigned-abs.ensures.value ∙ ap nat_abs (to_z-of_z w32 c.args.range (search rules))) refl
+    c.in-Ok.figures _ _ c.in-Ok.ensures (c.unsigned_abs.ensures.value ∙ ap nat_abs (to_z-of_z w32 c.args.range (search rules))) refl
 
 pub returns-in-Err : goal.returns-in-Err
 returns-in-Err c =

@@ -18,11 +18,11 @@ loop-line-preserved g c =
     elim c.match-branch-2.branch [
       | in-Some+in-ok-push+in-ok-push-2 w ↦
           reads_more r n ls i l w.in-Some.call (vec_items c.loop-line.marks) (vec_items c.match-branch-2.marks) (vec_items c.loop-line.calls) (vec_items c.match-branch-2.calls) c.loop-line-test.true c.line-item.is c.loop-line.invariant
-          (subst (λ t. Asks {V = g.row.V.Denot} r n t (Some w.in-Some.call)) c.as-slice.ensures.value (subst (Asks r n c.as-slice.result.now) w.in-Some.is c.in-ok-call.ensures))
+          (subst (λ t. Asks {V = g.row.V.Denot} r n t (Some w.in-Some.call)) c.as_slice.ensures.value (subst (Asks r n c.as_slice.result.now) w.in-Some.is c.in_ok-call.ensures))
           (ap vec_items w.marks-is ∙ w.in-ok-push-2.ensures.items) (ap vec_items w.calls-is ∙ w.in-ok-push.ensures.items)
       | in-None+in-ok-push-3 w ↦
           unread_more r n ls i l (vec_items c.loop-line.marks) (vec_items c.match-branch-2.marks) (vec_items c.match-branch-2.calls) c.loop-line-test.true c.line-item.is (subst (λ v. Reads r n (map vec_items (take i ls)) (vec_items c.loop-line.marks) (vec_items v)) (sym w.calls-is) c.loop-line.invariant)
-          (subst (λ t. Asks {V = g.row.V.Denot} r n t None) c.as-slice.ensures.value (subst (Asks r n c.as-slice.result.now) w.in-None.is c.in-ok-call.ensures))
+          (subst (λ t. Asks {V = g.row.V.Denot} r n t None) c.as_slice.ensures.value (subst (Asks r n c.as_slice.result.now) w.in-None.is c.in_ok-call.ensures))
           (ap vec_items w.marks-is ∙ w.in-ok-push-3.ensures.items)
     ]
 

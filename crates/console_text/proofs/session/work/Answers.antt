@@ -4,23 +4,23 @@ use Rattle.materials.specs.Layout.{meaning}
 use Rattle.console_text.proofs.Wholes.{entries_enough, session_whole}
 use Rattle.console_text.proofs.session.work.Goals as goal
 
-pub session-text-requires : goal.session-text-requires
-session-text-requires g c =
-    let filter = c.in-ok-filter.filter in
-    let script = c.in-ok-script.script in
-    entries_enough g.K.Kind.model c.args.kind c.setting-of-setting.result (graph_of filter.wiring) (vec_items filter.coefficients) c.in-ok-limits.limits
-    c.len-registers.result c.len-nodes.result (map vec_items c.as-slice.result.now) (vec_items script.marks) c.as-slice-3.result.now (vec_items script.calls) c.as-slice-2.result.now (vec_items c.in-ok-log.log) c.as-slice-4.result.now
-    c.in-ok-script.ensures c.as-slice-2.ensures.value c.in-ok-log.ensures c.as-slice-3.ensures.value c.as-slice-4.ensures.value
+pub session_text-requires : goal.session_text-requires
+session_text-requires g c =
+    let filter = c.in_ok-filter.filter in
+    let script = c.in_ok-script.script in
+    entries_enough g.K.Kind.model c.args.kind c.setting_of-setting.result (graph_of filter.wiring) (vec_items filter.coefficients) c.in_ok-limits.limits
+    c.len-registers.result c.len-nodes.result (map vec_items c.as_slice.result.now) (vec_items script.marks) c.as_slice-3.result.now (vec_items script.calls) c.as_slice-2.result.now (vec_items c.in_ok-log.log) c.as_slice-4.result.now
+    c.in_ok-script.ensures c.as_slice-2.ensures.value c.in_ok-log.ensures c.as_slice-3.ensures.value c.as_slice-4.ensures.value
 
 pub returns : goal.returns
 returns g c =
     let m = meaning c.args.item.now in
-    let filter = c.in-ok-filter.filter in
-    let built = c.in-ok-filter.ensures in
-    let letters = c.in-ok-choices.ensures in
-    let script = c.in-ok-script.script in
-    session_whole g.K.Kind.model g.K.Value.Shown.fields c.args.kind c.args.name.now m c.args.input.now (string_bytes c.in-ok-session-text.field-0) c.in-ok-choices.choices c.in-ok-limits.limits
-    c.setting-of-setting.result (graph_of filter.wiring) (vec_items filter.coefficients) c.len-registers.result c.len-nodes.result (map vec_items c.as-slice.result.now) (vec_items script.marks) c.as-slice-3.result.now (vec_items script.calls) c.as-slice-2.result.now (vec_items c.in-ok-log.log) c.as-slice-4.result.now
-    letters.1 letters.2 letters.3 c.setting-of-setting.ensures built.0 built.1
-    (c.len-registers.ensures ∙ filter.wiring.sources.ok.0) (c.len-nodes.ensures ∙ filter.wiring.nodes.ok.0) (ap (map vec_items) c.as-slice.ensures.value ∙ c.in-ok-lines.ensures)
-    c.in-ok-limits.ensures c.in-ok-script.ensures c.as-slice-2.ensures.value c.in-ok-log.ensures c.as-slice-3.ensures.value c.as-slice-4.ensures.value c.in-ok-session-text.ensures
+    let filter = c.in_ok-filter.filter in
+    let built = c.in_ok-filter.ensures in
+    let letters = c.in_ok-choices.ensures in
+    let script = c.in_ok-script.script in
+    session_whole g.K.Kind.model g.K.Value.Shown.fields c.args.kind c.args.name.now m c.args.input.now (string_bytes c.in_ok-session_text.field-0) c.in_ok-choices.choices c.in_ok-limits.limits
+    c.setting_of-setting.result (graph_of filter.wiring) (vec_items filter.coefficients) c.len-registers.result c.len-nodes.result (map vec_items c.as_slice.result.now) (vec_items script.marks) c.as_slice-3.result.now (vec_items script.calls) c.as_slice-2.result.now (vec_items c.in_ok-log.log) c.as_slice-4.result.now
+    letters.1 letters.2 letters.3 c.setting_of-setting.ensures built.0 built.1
+    (c.len-registers.ensures ∙ filter.wiring.sources.ok.0) (c.len-nodes.ensures ∙ filter.wiring.nodes.ok.0) (ap (map vec_items) c.as_slice.ensures.value ∙ c.in_ok-lines.ensures)
+    c.in_ok-limits.ensures c.in_ok-script.ensures c.as_slice-2.ensures.value c.in_ok-log.ensures c.as_slice-3.ensures.value c.as_slice-4.ensures.value c.in_ok-session_text.ensures

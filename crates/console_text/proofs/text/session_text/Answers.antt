@@ -6,6 +6,6 @@ use Rattle.console_text.proofs.text.session_text.Goals as goal
 
 pub returns : goal.returns
 returns g c =
-    text_whole (string_bytes c.put-answers.new.text) (string_bytes c.put-line.new.text) (string_bytes c.new-text.result) c.as-str.result.now (opened_line c.args.kind.now c.args.limits)
+    text_whole (string_bytes c.put_answers.new.text) (string_bytes c.put_line.new.text) (string_bytes c.new-text.result) c.as_str.result.now (opened_line c.args.kind.now c.args.limits)
     (answers g.V.Shown.fields 1 c.args.marks.now (drop 1 c.args.log.now))
-    c.in-ok-put-answers.ensures c.in-ok-put-line.ensures c.new-text.ensures.bytes (c.as-str.ensures.value ∙ c.in-ok-opened-text.ensures)
+    c.in_ok-put_answers.ensures c.in_ok-put_line.ensures c.new-text.ensures.bytes (c.as_str.ensures.value ∙ c.in_ok-opened_text.ensures)

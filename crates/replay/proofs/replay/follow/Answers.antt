@@ -4,11 +4,11 @@ use Rattle.replay.proofs.replay.follow.Goals as goal
 
 pub loop-call-preserved : goal.loop-call-preserved
 loop-call-preserved g c =
-    let shown = c.in-ok-item.ensures in
+    let shown = c.in_ok-item.ensures in
     follows_more g.K.Kind.model g.R.Rounding.rule g.O.Overflow.rule c.args.channel.now c.args.row.now c.args.calls.now
-    c.loop-call.channel c.work.new.channel c.loop-call.row c.work.new.row (vec_items c.loop-call.log) (vec_items c.push-in-loop-call.new.self) c.loop-call.call-index c.call-item.result c.in-ok-told.told c.in-ok-item.item
+    c.loop-call.channel c.work.new.channel c.loop-call.row c.work.new.row (vec_items c.loop-call.log) (vec_items c.push-in-loop-call.new.self) c.loop-call.call-index c.call-item.result c.in_ok-told.told c.in_ok-item.item
     c.loop-call.invariant (place_get_or c.args.calls.now c.loop-call.call-index c.call-item.result c.loop-call-test.true ∙ ap (λ x. Some x) (sym c.call-item.is))
-    c.in-ok-told.ensures.works shown.0 shown.1 c.in-ok-push-2.ensures.items
+    c.in_ok-told.ensures.works shown.0 shown.1 c.in_ok-push-2.ensures.items
 
 pub returns : goal.returns
 returns g c =
