@@ -52,7 +52,7 @@ fn direct_form_1(rt: HostRuntime) -> Result<(), Fail> {
         Node::Difference(2, 3),
     ];
     check_laid(&rt, &filter, &nodes, 4, &[4]);
-    assert!(rt; filter.coefficients.as_slice() == [8, -8]);
+    assert!(rt; filter.coefficients.as_slice() == [8, -8].as_slice());
     Ok(())
 }
 

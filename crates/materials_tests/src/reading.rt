@@ -22,10 +22,17 @@ fn the_example_is_read(rt: HostRuntime) -> Result<(), Fail> {
         )
     );
     assert!(rt;
-        oak.name.as_slice() == b"oak panel" && oak.whole_bits == 4 && oak.fraction_bits == 4
+        oak.name.as_slice() == b"oak panel".as_slice()
+            && oak.whole_bits == 4
+            && oak.fraction_bits == 4
     );
-    assert!(rt; oak.feedforward.as_slice() == [8] && oak.feedback.as_slice() == [-8]);
-    assert!(rt; wall.feedforward.as_slice() == [16] && wall.feedback.as_slice() == [-16]);
+    assert!(rt;
+        oak.feedforward.as_slice() == [8].as_slice() && oak.feedback.as_slice() == [-8].as_slice()
+    );
+    assert!(rt;
+        wall.feedforward.as_slice() == [16].as_slice()
+            && wall.feedback.as_slice() == [-16].as_slice()
+    );
     Ok(())
 }
 

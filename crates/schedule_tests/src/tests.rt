@@ -13,7 +13,7 @@ fn the_example(rt: HostRuntime) -> Result<(), Fail> {
     let text = schedule(rt.alloc(), EXAMPLE)?;
     assert!(rt;
         text.as_slice()
-            == b"materials\t2\noak panel\tfits\t63\t16384\t6\t0\necho wall\tnone\t21\t4\n"
+            == b"materials\t2\noak panel\tfits\t63\t16384\t6\t0\necho wall\tnone\t21\t4\n".as_slice()
     );
     Ok(())
 }
@@ -21,14 +21,14 @@ fn the_example(rt: HostRuntime) -> Result<(), Fail> {
 #[test]
 fn a_refused_file(rt: HostRuntime) -> Result<(), Fail> {
     let text = schedule(rt.alloc(), &[0, 0, 0])?;
-    assert!(rt; text.as_slice() == b"refused\t3\n");
+    assert!(rt; text.as_slice() == b"refused\t3\n".as_slice());
     Ok(())
 }
 
 #[test]
 fn no_materials(rt: HostRuntime) -> Result<(), Fail> {
     let text = schedule(rt.alloc(), &[0, 0])?;
-    assert!(rt; text.as_slice() == b"materials\t0\n");
+    assert!(rt; text.as_slice() == b"materials\t0\n".as_slice());
     Ok(())
 }
 
