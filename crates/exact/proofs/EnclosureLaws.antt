@@ -1,13 +1,13 @@
 -- What sums, differences and scales do to enclosures.
-use Rattle.std.proofs.Common.{◌≡◌, ℕ, zero, suc, ◌+◌, ◌*◌, ◌/◌, ◌%◌, ◌^◌, ◌<◌, ◌≤◌, ◌⊎◌, ℤ, pos, negsuc, ◌+ℤ◌, ◌-ℤ◌, ◌*ℤ◌, neg_ℤ, ◌≤ℤ◌, sym, refl, ap, ◌∙◌, subst, ap₂, subst₂, inl, inr, mod-lt, div-add-mod', arith, pow_pos}
+use Rattle.std.proofs.Common.{◌≡◌, ℕ, ◌+◌, ◌^◌, ◌⊎◌, ℤ, pos, negsuc, ◌+ℤ◌, ◌-ℤ◌, ◌*ℤ◌, neg_ℤ, ◌≤ℤ◌, sym, refl, ap, ◌∙◌, inl, inr, mod-lt, div-add-mod', arith, pow_pos}
 use lib.IntN.{neg_ℤ-neg_ℤ, +ℤ_idr}
-use lib.Signed.{≤ℤ_refl, shr_z}
-use borrow.Author.Differences.{ints, up, down}
+use lib.Signed.{≤ℤ_refl}
+use borrow.Author.Differences.{ints}
 use Rattle.std.specs.Int.{int_min, int_max}
 use Rattle.std.proofs.lemmas.Int.{clamps}
-use Rattle.exact.specs.Numbers.{two, Exact, whole, over, ◌⊞◌, ◌⊟◌, neg, scale, ◌≼◌}
+use Rattle.exact.specs.Numbers.{two, Exact, whole, over, ◌⊞◌, ◌⊟◌, scale, ◌≼◌}
 use Rattle.exact.specs.Enclosures.{down_by, up_by, ticks, Encloses, moved, scale_low, scale_high}
-use Rattle.exact.proofs.Integers.{+ℤ_mono, neg-*ℤ, neg_mono, *ℤ_one', ring, two_add, ≤ℤ_trans, two_mono, two_zero, one-*ℤ}
+use Rattle.exact.proofs.Integers.{+ℤ_mono, neg-*ℤ, neg_mono, *ℤ_one', ring, ≤ℤ_trans, two_mono, two_zero}
 use Rattle.exact.proofs.NumberLaws.{sum_over, neg_over, scale_over, le_over, le_sum, le_neg, le_scale, le_scale_neg, le_trans, le_refl, cross, over_stretch}
 
 floor_le : (n : ℤ) (l : ℕ) → (down_by n l *ℤ two l) ≤ℤ n

@@ -1,12 +1,11 @@
 -- Laws of the exact numbers.
-use Rattle.std.proofs.Common.{◌≡◌, ℕ, zero, suc, ◌+◌, ◌*◌, ◌/◌, ◌%◌, ◌^◌, ◌<◌, ◌≤◌, Bool, true, false, eqb, ◌↔◌, ℤ, pos, negsuc, ◌+ℤ◌, ◌-ℤ◌, ◌*ℤ◌, neg_ℤ, ◌≤ℤ◌, ◌<ℤ◌, sym, refl, ap, ◌∙◌, subst, ap₂, subst₂, add-zero, add_assoc, add-suc, add_comm, arith}
+use Rattle.std.proofs.Common.{◌≡◌, ℕ, zero, suc, ◌+◌, Bool, true, false, ◌↔◌, ℤ, pos, negsuc, ◌+ℤ◌, ◌*ℤ◌, neg_ℤ, ◌≤ℤ◌, sym, refl, ap, ◌∙◌, subst, ap₂, subst₂, add-zero, add-suc, add_comm, arith}
 use mathlib.Core.Path.{subst₃}
-use native.Mathlib.Nat.{add_left_comm}
-use lib.IntN.{*ℤ_comm, +ℤ_comm, +ℤ_invr, +ℤ_idr, +ℤ_idl, zero-*ℤ, *ℤ-zero}
-use lib.Signed.{≤ℤ_refl, shr_z}
-use borrow.Author.Differences.{ints, same_in}
+use lib.IntN.{+ℤ_invr, +ℤ_idl, zero-*ℤ}
+use lib.Signed.{≤ℤ_refl}
+use borrow.Author.Differences.{ints}
 use Rattle.exact.specs.Numbers.{two, Exact, whole, part, num, exp, odd, half, given, over, ◌⊞◌, ◌⊟◌, neg, scale, ◌≼◌}
-use Rattle.exact.proofs.Integers.{one-*ℤ, two_mono, two_cancel, ≤ℤ_trans, ≤ℤ_antisym, +ℤ_mono, neg_mono, *ℤ_mono, *ℤ_mono_neg, two_zero, two_add, two_suc, *ℤ_one', ring, *ℤ_assoc, *ℤ_distl}
+use Rattle.exact.proofs.Integers.{one-*ℤ, two_mono, two_cancel, ≤ℤ_trans, ≤ℤ_antisym, +ℤ_mono, neg_mono, *ℤ_mono, *ℤ_mono_neg, two_zero, two_suc, *ℤ_one', ring, *ℤ_distl}
 
 double_odd : (h : ℤ) → odd (h +ℤ h) ≡ false
 double_odd (pos n) = grind arith

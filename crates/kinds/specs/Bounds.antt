@@ -1,5 +1,5 @@
 -- The bound kind: a peak, the largest magnitude of a word in steps, and a ceiling, the largest distance from the exact number in ticks.
-use Rattle.std.specs.Prelude.{◌≡◌, ℕ, ◌+◌, ◌-◌, ◌*◌, ◌^◌, ◌≤◌, min, cond, ℤ, pos, neg_ℤ, Ok, Err, Result, nat_le, unsigned_abs}
+use Rattle.std.specs.Prelude.{ℕ, ◌+◌, ◌-◌, ◌*◌, ◌^◌, ◌≤◌, min, cond, ℤ, pos, neg_ℤ, Ok, Err, Result, nat_le, unsigned_abs}
 use Rattle.std.proofs.Common.{arith}
 use Rattle.arithmetic.specs.Words.{half}
 use Rattle.arithmetic.specs.Rounding.{up_part}

@@ -1,9 +1,9 @@
 -- The enclosed kind keeps its laws.
-use Rattle.std.specs.Prelude.{◌≡◌, ℕ, ◌+◌, ◌*◌, ◌^◌, ◌≤◌, ℤ, pos, ◌+ℤ◌, ◌-ℤ◌, ◌*ℤ◌, Ok, Err, Result, unsigned_abs, refl}
+use Rattle.std.specs.Prelude.{◌≡◌, ℕ, ◌^◌, ◌≤◌, ℤ, pos, ◌+ℤ◌, ◌-ℤ◌, ◌*ℤ◌, Ok, Err, Result, unsigned_abs, refl}
 use Rattle.std.proofs.Common.{sym, ap, ap₂, subst, subst₂, ◌∙◌, arith}
 use Rattle.arithmetic.specs.Rounding.{remainder}
 use Rattle.arithmetic.specs.Settings.{FixedArithmetic, Lawful, fraction}
-use Rattle.exact.specs.Numbers.{Exact, whole, scale}
+use Rattle.exact.specs.Numbers.{Exact, whole}
 use Rattle.exact.specs.Enclosures.{Encloses, moved, scale_low, scale_high}
 use Rattle.exact.proofs.EnclosureLaws.{encloses_self, sum_encloses, difference_encloses, scale_encloses}
 use Rattle.kinds.specs.declared.refusal.Refusal.{Refusal}

@@ -1,5 +1,5 @@
 -- Kinds of value: an arithmetic whose values each cover pairs of a fixed word and an exact number.
-use Rattle.std.specs.Prelude.{◌≡◌, ℕ, ℤ, pos, Ok, Err, Result}
+use Rattle.std.specs.Prelude.{◌≡◌, ℤ, pos, Ok, Result}
 use Rattle.arithmetic.specs.declared.setting.FixedPoint.{FixedPoint}
 use Rattle.arithmetic.specs.Rounding.{RoundingRule}
 use Rattle.arithmetic.specs.Overflow.{OverflowRule}

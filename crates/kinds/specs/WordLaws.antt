@@ -2,10 +2,10 @@
 use Rattle.std.specs.Prelude.{◌≡◌, ℕ, ℤ, pos, ◌*ℤ◌, Ok, Err, Result, refl}
 use Rattle.std.proofs.Common.{sym, ap, ap₂, ◌∙◌, arith}
 use Rattle.arithmetic.specs.Settings.{FixedArithmetic, Lawful}
-use Rattle.exact.specs.Numbers.{Exact, scale}
+use Rattle.exact.specs.Numbers.{Exact}
 use Rattle.kinds.specs.declared.refusal.Refusal.{Refusal}
 use Rattle.kinds.specs.declared.values.Word.{Word}
-use Rattle.kinds.specs.Arithmetics.{stored, rounded, fixed, exact}
+use Rattle.kinds.specs.Arithmetics.{stored, rounded, fixed}
 use Rattle.kinds.specs.Kinds.{Goes, Taken, LawfulKind}
 use Rattle.kinds.specs.Words.{word_of, as_word, word_kind}
 use Rattle.kinds.specs.Facts.{only}

@@ -1,7 +1,6 @@
 -- The word kind: a bare word, which covers its own word with every exact number.
 use Rattle.std.specs.Prelude.{◌≡◌, ℤ, pos, Ok, Err, Result}
 use Rattle.arithmetic.specs.Settings.{FixedArithmetic}
-use Rattle.exact.specs.Numbers.{Exact}
 use Rattle.kinds.specs.declared.refusal.Refusal.{Refusal}
 use Rattle.kinds.specs.declared.values.Word.{Word}
 use Rattle.kinds.specs.Arithmetics.{Arithmetic, fixed}

@@ -19,7 +19,7 @@ use Rattle.channel.specs.declared.channel.Channel.{Channel as Running}
 use Rattle.channel.specs.declared.fault.CallFault.{CallFault}
 use Rattle.channel.specs.declared.fault.CallFault.TheVariants.{RegisterRow, WorkingRow, Sample}
 use Rattle.channel.specs.declared.state.Limits.{Limits}
-use Rattle.channel.specs.Channels.{Call, feed, swap, hush, Channel, Answer, fed, swapped, hushed, telling, answer, leaves}
+use Rattle.channel.specs.Channels.{Call, feed, hush, Channel, Answer, fed, swapped, hushed, telling, answer, leaves}
 use Rattle.channel.specs.Running.{limits_in, graph, registers_in, nodes_in, holding, Same, values, answered_to, left_by, row_left, HandsOut, working_left}
 use Rattle.channel.proofs.Histories.{or_fault_out, feed_run}
 use Rattle.channel.proofs.Holding.{same_parts}

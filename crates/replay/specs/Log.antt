@@ -6,8 +6,6 @@ use Rattle.wiring.specs.Graphs.{Graph}
 use Rattle.channel.specs.declared.fault.CallFault.{CallFault}
 use Rattle.channel.specs.declared.state.Limits.{Limits}
 use Rattle.channel.specs.Channels.{Call, feed, swap, hush, Channel, Answer, fed, swapped, hushed, answer, after, Entry as Noted}
-use Rattle.channel.specs.References.{accepted}
-use Rattle.channel.specs.Running.{values}
 use Rattle.replay.specs.declared.log.Call.{Call as Listed}
 use Rattle.replay.specs.declared.log.Call.TheVariants.{Feed, Swap, Hush}
 use Rattle.replay.specs.declared.log.Told.{Told}

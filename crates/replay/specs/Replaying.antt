@@ -10,7 +10,7 @@ use Rattle.kinds.specs.Kinds.{KindModel}
 use Rattle.wiring.specs.Graphs.{Graph}
 use Rattle.channel.specs.declared.channel.Channel.{Channel as Running}
 use Rattle.channel.specs.declared.state.Limits.{Limits}
-use Rattle.channel.specs.Channels.{Call, answer, leaves, after}
+use Rattle.channel.specs.Channels.{Call, after}
 use Rattle.channel.specs.Running.{registers_in, holding, answered_to, left_by, Same, graph, limits_in, values}
 use Rattle.channel.specs.Opening.{open_check}
 use Rattle.replay.specs.declared.log.Call.{Call as Listed}

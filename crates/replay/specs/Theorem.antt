@@ -14,12 +14,11 @@ use Rattle.sheet.specs.Sheets.{Sheet, Granted}
 use Rattle.channel.specs.declared.state.State.TheVariants.{Settled}
 use Rattle.channel.specs.declared.state.Limits.{Limits}
 use Rattle.channel.specs.Watches.{Live}
-use Rattle.channel.specs.Channels.{Call, feed, hush, fed, leaves, after}
+use Rattle.channel.specs.Channels.{Call, feed}
 use Rattle.channel.specs.References.{Reference, fixed_run, exact_run, reference, accepted, Quiet, Zeros}
-use Rattle.channel.specs.Running.{values}
 use Rattle.channel.specs.Theorem.{strict, said, Passes, limits_of}
 use Rattle.replay.specs.declared.log.Entry.{Entry}
-use Rattle.replay.specs.Log.{place, earlier, taken, past, Heard, heard}
+use Rattle.replay.specs.Log.{place, earlier, past, Heard, heard}
 
 module _ {V : Type 0} (s : FixedArithmetic) (m : KindModel V) (g : Graph) (cs : List ℤ) (limits : Option Limits) (calls : List Call) (log : List (Entry V)) where
   -- the reference runs after the first i calls, moved by their arguments and by whether the log says that they were accepted

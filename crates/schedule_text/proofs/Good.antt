@@ -1,5 +1,5 @@
 -- What a material that nothing is wrong with passes. Assumes nothing.
-use Rattle.std.proofs.Common.{◌≡◌, ℕ, zero, suc, ◌+◌, ◌-◌, ◌^◌, ◌<◌, ◌≤◌, max, Bool, true, false, cond, ◌&&◌, eqb, leb, List, [], ◌∷◌, ◌++◌, length, ℤ, pos, Some, None, Err, Option, sym, refl, ap, ◌∙◌, arith}
+use Rattle.std.proofs.Common.{◌≡◌, ℕ, suc, ◌+◌, ◌-◌, ◌^◌, ◌≤◌, max, Bool, true, false, cond, ◌&&◌, eqb, leb, List, [], ◌∷◌, ◌++◌, length, ℤ, pos, Some, None, Err, Option, sym, refl, ap, ◌∙◌, arith}
 use Rattle.std.proofs.lemmas.List.{length-append}
 use Rattle.std.proofs.lemmas.Bool.{both_ways, and_parts, and_from, le-leb, lt-ltb, eq-eqb, leb-true, eqb-true}
 use Rattle.std.proofs.lemmas.Nat.{pow_below}
@@ -9,7 +9,6 @@ use Rattle.arithmetic.specs.Formats.{format_fault}
 use Rattle.wiring.specs.Graphs.{Graph}
 use Rattle.wiring.specs.Checks.{unless, first, scan, wiring_fault, counts_fault, naming_fault}
 use Rattle.wiring.specs.Programs.{word_fault, words_fault, list_fault}
-use Rattle.wiring.specs.declared.faults.ProgramFault.{ProgramFault}
 use Rattle.wiring.specs.declared.faults.ProgramFault.TheVariants.{Wiring, OtherLength, Coefficient}
 use Rattle.forms.specs.declared.form.Form.{Form}
 use Rattle.forms.specs.declared.form.Form.TheVariants.{Direct1, Direct2, Transposed2}
@@ -18,12 +17,10 @@ use Rattle.forms.specs.declared.form.FormFault.{FormFault}
 use Rattle.forms.specs.declared.form.FormFault.TheVariants.{Numerator, Denominator, Memory}
 use Rattle.forms.specs.Built.{numerator_good, denominator_good, BuildAnswer, form_number}
 use Rattle.forms.proofs.Sound.{sound_form}
-use Rattle.sheet.specs.declared.figures.SheetFault.{SheetFault}
 use Rattle.sheet.specs.declared.figures.SheetFault.TheVariants.{Format, Program, PeaksRow, CeilingsRow, BandRow, Range}
 use Rattle.sheet.specs.Calls.{Rows, in_range, call_fault, sheet_check}
 use Rattle.materials.specs.Layout.{Material}
-use Rattle.materials.specs.Refusals.{first as first_row}
-use Rattle.materials.specs.Records.{words_ok, format_rows, unwritten, material_fault}
+use Rattle.materials.specs.Records.{words_ok, unwritten, material_fault}
 use Rattle.materials.proofs.Rows.{some_none, cond_none}
 use Rattle.materials.proofs.Chains.{passed, bounded}
 use Rattle.schedule_text.specs.Outcomes.{range_in, range_of, coefficients_of, wiring_in}

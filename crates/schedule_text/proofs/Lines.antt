@@ -4,7 +4,7 @@ use Rattle.std.specs.List.{AllByRecursion as All}
 use Rattle.std.proofs.lemmas.List.{map_more}
 use Rattle.wiring.specs.Lists.{Each₂, none₂, more₂}
 use Rattle.materials.specs.declared.record.Record.{Record}
-use Rattle.materials.specs.Layout.{Material, meaning}
+use Rattle.materials.specs.Layout.{meaning}
 use Rattle.materials.specs.Records.{material_fault}
 use Rattle.materials.specs.Lists.{record_fault}
 use Rattle.materials.specs.Files.{materials_fault}

@@ -1,5 +1,5 @@
 -- What a sheet's answer tells of a good material. Assumes nothing.
-use Rattle.std.proofs.Common.{◌≡◌, ℕ, ◌+◌, ◌≤◌, List, length, replicate, ℤ, pos, Some, None, Ok, Err, Option, Result, sym, refl, ap, ◌∙◌, subst, arith, w32, SFits, to_z, of_z}
+use Rattle.std.proofs.Common.{◌≡◌, ℕ, ◌+◌, ◌≤◌, List, length, replicate, ℤ, pos, Some, None, Ok, Err, Option, Result, sym, refl, ◌∙◌, subst, arith, w32, SFits, to_z, of_z}
 use mathlib.Core.Path.{transport}
 use Rattle.std.proofs.lemmas.List.{length-replicate}
 use Rattle.std.proofs.lemmas.Int.{to_z-of_z}

@@ -1,5 +1,5 @@
 -- What the steps of the search for a closed box answer and leave. A row holds a box in its first places, one for each register.
-use Rattle.std.specs.Prelude.{◌≡◌, ℕ, zero, ◌<◌, ◌≤◌, ◌⊎◌, List, ◌++◌, map, length, get_or, take, drop, ℤ, Ok, Err, vec_items, Result, slice_index_or}
+use Rattle.std.specs.Prelude.{◌≡◌, ℕ, ◌<◌, ◌≤◌, ◌⊎◌, List, ◌++◌, map, length, get_or, take, drop, ℤ, Ok, Err, vec_items, Result, slice_index_or}
 use Rattle.arithmetic.specs.Settings.{FixedArithmetic}
 use Rattle.kinds.specs.declared.refusal.Refusal.{Refusal}
 use Rattle.kinds.specs.declared.values.Bound.{Bound}
@@ -11,7 +11,7 @@ use Rattle.wiring.specs.Lists.{Each₂}
 use Rattle.wiring.specs.Runs.{Worked, run}
 use Rattle.sheet.specs.declared.figures.SheetFault.{SheetFault}
 use Rattle.sheet.specs.declared.figures.SheetFault.TheVariants.{Format, Program as OfProgram, PeaksRow, CeilingsRow, BandRow, Range, Node}
-use Rattle.sheet.specs.Rounds.{round, nth_box}
+use Rattle.sheet.specs.Rounds.{nth_box}
 use Rattle.sheet.specs.Sheets.{Below, Closed, Falls, Nowhere}
 
 -- the bound (0, 0)

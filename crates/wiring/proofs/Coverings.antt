@@ -1,5 +1,5 @@
 -- The first use of the simulation: a kind of value against the fixed and the exact run.
-use Rattle.std.proofs.Common.{◌≡◌, ℕ, ◌-◌, ◌^◌, List, ℤ, pos, Ok, Err, Result, sym, refl, ap, subst, arith, pow_pos}
+use Rattle.std.proofs.Common.{◌≡◌, ℕ, ◌-◌, ℤ, pos, Ok, Result, refl, subst, arith, pow_pos}
 use borrow.Author.Differences.{ints}
 use Rattle.arithmetic.specs.declared.overflow.Stored.{Stored}
 use Rattle.arithmetic.specs.declared.overflow.Stored.TheVariants.{Word, Stopped}
@@ -7,12 +7,9 @@ use Rattle.arithmetic.specs.Words.{Inside}
 use Rattle.arithmetic.specs.Settings.{FixedArithmetic, Lawful, WordOf, bits, inner_bits}
 use Rattle.exact.specs.Numbers.{Exact, whole}
 use Rattle.kinds.specs.declared.refusal.Refusal.{Refusal}
-use Rattle.kinds.specs.Arithmetics.{Arithmetic, or_refused, stored, fixed, exact}
+use Rattle.kinds.specs.Arithmetics.{or_refused, stored, fixed, exact}
 use Rattle.kinds.specs.Kinds.{KindModel, LawfulKind, Goes}
-use Rattle.wiring.specs.Lists.{All, Each₂, Each₃}
-use Rattle.wiring.specs.Graphs.{Graph}
-use Rattle.wiring.specs.Runs.{Worked, run}
-use Rattle.wiring.specs.Covering.{Related, CoversWord, RunCovers}
+use Rattle.wiring.specs.Covering.{CoversWord, RunCovers}
 use Rattle.wiring.proofs.Places.{each₂_with}
 use Rattle.wiring.proofs.Simulation.{Simulates, simulation}
 

@@ -1,5 +1,5 @@
 -- Lists related place by place.
-use Rattle.std.proofs.Common.{◌≡◌, ℕ, zero, suc, List, [], ◌∷◌, ◌++◌, map, length, get_or, refl}
+use Rattle.std.proofs.Common.{ℕ, zero, suc, List, [], ◌∷◌, ◌++◌, map, get_or}
 use Rattle.wiring.specs.Lists.{Each₂, none₂, more₂, Each₃, none₃, more₃, All, all_none, all_more}
 
 pub all_at : {A : Type 0} {P : A → Type 0} {xs : List A} {d : A} → All P xs → P d → (i : ℕ) → P (get_or xs i d)

@@ -1,18 +1,17 @@
 -- Rows that a loop fills from the front, and a run with one node more.
-use Rattle.std.proofs.Common.{◌≡◌, ℕ, suc, ◌+◌, ◌-◌, ◌<◌, ◌≤◌, Bool, true, false, ltb, leb, List, [], ◌∷◌, ◌++◌, map, length, get_or, take, drop, set, replicate, ℤ, pos, Some, None, Ok, Err, Option, Result, sym, refl, ap, ◌∙◌, arith, ltb-true, leb-true}
+use Rattle.std.proofs.Common.{◌≡◌, ℕ, ◌+◌, ◌-◌, ◌<◌, ◌≤◌, Bool, true, false, leb, List, [], ◌∷◌, ◌++◌, map, length, get_or, take, drop, set, replicate, ℤ, Some, None, Ok, Err, Option, Result, sym, ap, ◌∙◌, arith, ltb-true, leb-true}
 use native.Mathlib.Nat.{sub-zero}
-use Rattle.std.proofs.lemmas.List.{append_assoc, drop_more, set_at, length-replicate, replicate_more, get_or-take, get_or_read, length-map, map_more, length-take-le, take_more_set, drop-set-lt, at_drop_more, at_drop_all, take-append-drop, drop-drop}
+use Rattle.std.proofs.lemmas.List.{append_assoc, drop_more, set_at, length-replicate, replicate_more, get_or_read, length-map, map_more, length-take-le, take_more_set, drop-set-lt, at_drop_more, at_drop_all, take-append-drop, drop-drop}
 use Rattle.kinds.specs.declared.refusal.Refusal.{Refusal}
 use Rattle.kinds.specs.Arithmetics.{Arithmetic}
 use Rattle.wiring.specs.declared.graph.Node.{Node}
-use Rattle.wiring.specs.declared.graph.Node.TheVariants.{Input, Zero, Register, Scale, Sum, Difference}
+use Rattle.wiring.specs.declared.graph.Node.TheVariants.{Input, Register, Scale, Sum, Difference}
 use Rattle.wiring.specs.declared.faults.RunFault.{RunFault}
 use Rattle.wiring.specs.declared.faults.RowFault.TheVariants.{Registers, Working}
 use Rattle.wiring.specs.declared.faults.RunFault.TheVariants.{Row, Node as AtNode}
 use Rattle.wiring.specs.Graphs.{Graph}
 use Rattle.wiring.specs.Checks.{unless, first, node_fault}
 use Rattle.wiring.specs.Runs.{onward, at_node, node_value, work, answered, row_after, rows_fault, or_fault}
-use Rattle.wiring.specs.Running.{Named}
 use Rattle.wiring.proofs.Soundness.{first_none, unless_none, and_out}
 
 -- one more place of a row written, after those of front

@@ -1,6 +1,6 @@
 -- A loop that looks along a list for the first fault.
-use Rattle.std.proofs.Common.{◌≡◌, ℕ, zero, suc, ◌+◌, ◌<◌, ◌≤◌, List, [], ◌∷◌, length, get_or, drop, Some, None, Option, refl, ap, ◌∙◌, add-one, arith, drop-cons}
-use Rattle.wiring.specs.Checks.{first, scan}
+use Rattle.std.proofs.Common.{◌≡◌, ℕ, zero, suc, ◌+◌, ◌<◌, ◌≤◌, List, [], ◌∷◌, length, get_or, drop, Some, None, Option, refl, add-one, arith, drop-cons}
+use Rattle.wiring.specs.Checks.{scan}
 
 module _ {A F : Type 0} (fault : ℕ → A → Option F) (xs : List A) (i : ℕ) (d : A) where
   pub scan_on : i < length xs → fault i (get_or xs i d) ≡ None → scan fault i (drop i xs) ≡ scan fault (i + 1) (drop (i + 1) xs)

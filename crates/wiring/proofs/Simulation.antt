@@ -1,14 +1,13 @@
 -- One simulation lemma: let R relate the values of an arithmetic to pairs of values of two others. If an operation that the first takes on related
 -- operands is taken by both others, with related results, then a run that the first takes is taken by both others, and every node, the output and
 -- the registers are related. The last arithmetic has a coefficient list of its own, related place by place to that of the first two.
-use Rattle.std.proofs.Common.{◌≡◌, ℕ, List, [], ◌∷◌, ◌++◌, map, length, get_or, ℤ, pos, Ok, Err, Result, refl, arith}
+use Rattle.std.proofs.Common.{◌≡◌, ℕ, List, [], ◌∷◌, ◌++◌, length, ℤ, pos, Ok, Err, Result, refl, arith}
 use Rattle.kinds.specs.declared.refusal.Refusal.{Refusal}
 use Rattle.kinds.specs.Arithmetics.{Arithmetic}
 use Rattle.kinds.specs.Kinds.{Goes}
-use Rattle.wiring.specs.declared.faults.RunFault.{RunFault}
 use Rattle.wiring.specs.declared.graph.Node.{Node}
 use Rattle.wiring.specs.declared.graph.Node.TheVariants.{Input, Zero, Register, Scale, Sum, Difference}
-use Rattle.wiring.specs.Lists.{Each₂, none₂, more₂, Each₃, none₃, more₃}
+use Rattle.wiring.specs.Lists.{Each₂, Each₃, none₃}
 use Rattle.wiring.specs.Graphs.{Graph}
 use Rattle.wiring.specs.Runs.{onward, at_node, node_value, work, Worked, taken, run}
 use Rattle.wiring.specs.Covering.{Related}

@@ -1,17 +1,14 @@
 -- What the check of a program gives.
-use Rattle.std.proofs.Common.{◌≡◌, ℕ, zero, suc, ◌+◌, ◌-◌, ◌^◌, ◌<◌, ◌≤◌, Bool, true, false, not, ◌&&◌, T, eqb, ltb, leb, List, [], ◌∷◌, length, get_or, ℤ, pos, negsuc, neg_ℤ, nat_abs, is_some, Some, None, Option, sym, refl, ap, ◌∙◌, subst, add-zero, add-suc, add_comm, arith, pow_mono, ltb-true, eqb-true, le-leb, leb-true}
+use Rattle.std.proofs.Common.{◌≡◌, ℕ, zero, suc, ◌+◌, ◌-◌, ◌^◌, ◌<◌, ◌≤◌, Bool, true, false, not, ◌&&◌, T, eqb, ltb, List, [], ◌∷◌, length, get_or, ℤ, pos, nat_abs, is_some, Some, None, Option, refl, ap, ◌∙◌, arith, pow_mono, ltb-true, eqb-true, le-leb, leb-true}
 use borrow.Author.Differences.{ints}
-use lib.Signed.{le_z, lt_z, le_z_yes, lt_z_yes}
+use lib.Signed.{le_z_yes, lt_z_yes}
 use Rattle.std.specs.Option.{option_map}
 use Rattle.arithmetic.specs.declared.format.Format.{Format}
-use Rattle.arithmetic.specs.Words.{half, inside, Inside}
+use Rattle.arithmetic.specs.Words.{inside, Inside}
 use Rattle.arithmetic.specs.Formats.{width}
-use Rattle.wiring.specs.declared.graph.Node.{Node}
 use Rattle.wiring.specs.declared.graph.Node.TheVariants.{Input}
-use Rattle.wiring.specs.declared.faults.WiringFault.{WiringFault}
 use Rattle.wiring.specs.declared.faults.WiringFault.TheVariants.{NoOutput}
-use Rattle.wiring.specs.declared.faults.ProgramFault.{ProgramFault}
-use Rattle.wiring.specs.declared.faults.ProgramFault.TheVariants.{Wiring, OtherLength, Coefficient}
+use Rattle.wiring.specs.declared.faults.ProgramFault.TheVariants.{Wiring, OtherLength}
 use Rattle.wiring.specs.Lists.{All, all_none, all_more}
 use Rattle.wiring.specs.Graphs.{Graph}
 use Rattle.wiring.specs.Checks.{unless, first, scan, counts_fault, node_fault, nodes_fault, source_fault, sources_fault, naming_fault, wiring_fault}

@@ -1,5 +1,5 @@
 -- A run that is taken over a kind of value covers the fixed run and the exact run.
-use Rattle.std.specs.Prelude.{◌≡◌, List, [], length, take, ℤ, Ok, Err, Result}
+use Rattle.std.specs.Prelude.{◌≡◌, List, ℤ, Ok}
 use Rattle.arithmetic.specs.Settings.{FixedArithmetic, WordOf}
 use Rattle.exact.specs.Numbers.{Exact}
 use Rattle.kinds.specs.Arithmetics.{fixed, exact}

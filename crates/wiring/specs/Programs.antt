@@ -1,5 +1,5 @@
 -- A program: a checked wiring with a coefficient list.
-use Rattle.std.specs.Prelude.{◌≡◌, ℕ, ◌^◌, Bool, true, false, not, ◌&&◌, List, [], ◌∷◌, length, ℤ, is_some, Some, None, Option, ◌==◌, nat_le, unsigned_abs}
+use Rattle.std.specs.Prelude.{ℕ, ◌^◌, Bool, true, not, ◌&&◌, List, [], ◌∷◌, length, ℤ, is_some, Option, ◌==◌, nat_le, unsigned_abs}
 use Rattle.std.specs.Option.{option_map}
 use Rattle.arithmetic.specs.declared.format.Format.{Format}
 use Rattle.arithmetic.specs.Words.{inside}

@@ -4,7 +4,6 @@ use Rattle.kinds.specs.declared.refusal.Refusal.{Refusal}
 use Rattle.kinds.specs.Arithmetics.{Arithmetic, number}
 use Rattle.wiring.specs.declared.graph.Node.{Node}
 use Rattle.wiring.specs.declared.graph.Node.TheVariants.{Input, Zero, Register, Scale, Sum, Difference}
-use Rattle.wiring.specs.declared.faults.RowFault.{RowFault}
 use Rattle.wiring.specs.declared.faults.RowFault.TheVariants.{Registers, Working}
 use Rattle.wiring.specs.declared.faults.RunFault.{RunFault}
 use Rattle.wiring.specs.declared.faults.RunFault.TheVariants.{Row, Node as AtNode}

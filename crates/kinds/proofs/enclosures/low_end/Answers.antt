@@ -1,4 +1,4 @@
-use Rattle.std.proofs.Common.{ℤ, pos, ◌+ℤ◌, ◌*ℤ◌, arith, w64, SFits}
+use Rattle.std.proofs.Common.{pos, ◌+ℤ◌, ◌*ℤ◌, arith, w64, SFits}
 use borrow.Author.Differences.{ints}
 use Rattle.std.specs.Int.{int_min}
 use Rattle.std.proofs.lemmas.Int.{to_z-of_z, clamps}

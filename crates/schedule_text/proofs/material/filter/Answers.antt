@@ -1,4 +1,4 @@
-use Rattle.std.proofs.Common.{◌≡◌, Err, sym, ap, ◌∙◌}
+use Rattle.std.proofs.Common.{Err, sym, ◌∙◌}
 use mathlib.Core.Path.{transport}
 use Rattle.materials.specs.Layout.{meaning}
 use Rattle.forms.specs.Built.{BuildAnswer}

@@ -1,4 +1,4 @@
-use Rattle.std.proofs.Common.{sym, ap, ◌∙◌, arith}
+use Rattle.std.proofs.Common.{sym, ◌∙◌, arith}
 use Rattle.wiring.specs.declared.graph.Node.TheVariants.{Input}
 use Rattle.wiring.specs.Checks.{node_fault}
 use Rattle.wiring.proofs.Scans.{scan_on, scan_found, scan_end}

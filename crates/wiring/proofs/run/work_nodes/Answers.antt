@@ -1,4 +1,4 @@
-use Rattle.std.proofs.Common.{◌≡◌, ℕ, ◌<◌, ◌≤◌, [], length, get_or, take, ℤ, Ok, Err, ap, ◌∙◌, subst, arith, length-set, w32, SFits, to_z, of_z}
+use Rattle.std.proofs.Common.{◌≡◌, ℕ, [], length, get_or, take, ℤ, Ok, Err, subst, arith, length-set, w32, to_z, of_z}
 use native.Mathlib.Nat.{sub-zero}
 use Rattle.std.proofs.lemmas.Int.{to_z-of_z}
 use Rattle.kinds.specs.Kinds.{arithmetic}
