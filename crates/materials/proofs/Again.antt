@@ -1,6 +1,6 @@
 -- A file that is read and written again. Assumes nothing.
 use Rattle.std.proofs.Common.{◌≡◌, ℕ, zero, suc, ◌+◌, ◌*◌, ◌<◌, ◌≤◌, Bool, true, false, cond, eqb, leb, List, [], ◌∷◌, ◌++◌, map, length, get_or, take, drop, Some, None, Ok, Err, Result, sym, refl, ap, ◌∙◌, subst, inr, ⊎_elim, arith}
-use Rattle.std.specs.List.{flat_map, AllByRecursion as All}
+use Rattle.std.specs.List.{flat_map, AllByRecursion}
 use Rattle.std.proofs.lemmas.List.{append_assoc, length-take, length-drop, take-append-drop, drop-drop, drop_all, drop_more, length-map, get_or-take, get_or_past}
 use Rattle.std.proofs.lemmas.Bool.{eqb-true, cases_lt, cond-true, le-leb, leb-false}
 use Rattle.materials.specs.declared.refusal.Refusal.{Refusal}
@@ -78,11 +78,11 @@ bytes_take n bs h i =
     (λ (k : n ≤ i). subst (λ x. x < 256) (sym (get_or_past (take n bs) i 0 (simp length-take (omega arith)))) (omega arith))
     (cases_lt i n)
 
-bytes_parts : (f : List ℕ) → Bytes f → (prs : List (ℕ × ℕ)) → All Bytes (map (part_at f) prs)
+bytes_parts : (f : List ℕ) → Bytes f → (prs : List (ℕ × ℕ)) → AllByRecursion Bytes (map (part_at f) prs)
 bytes_parts f b [] = tt
 bytes_parts f b (p ∷ ps) = (bytes_take p.1 (drop p.0 f) (bytes_drop p.0 f b), bytes_parts f b ps)
 
-parts_again : (ps : List (List ℕ)) → All (λ p. part_fault p ≡ None) ps → All Bytes ps → map encoded (map material ps) ≡ ps
+parts_again : (ps : List (List ℕ)) → AllByRecursion (λ p. part_fault p ≡ None) ps → AllByRecursion Bytes ps → map encoded (map material ps) ≡ ps
 parts_again [] a b = refl
 parts_again (p ∷ ps) a b = λ i. part_again p a.0 b.0 i ∷ parts_again ps a.1 b.1 i
 
@@ -92,7 +92,7 @@ file_again f h b =
     let s = or_else_none (file_fault f) (records_fault [] 1 (parts f)) h in
     ap packed (parts_again (parts f) (all_sound part_fault name_of [] 1 (parts f) s.1) (bytes_parts f b (directory f))) ∙ packed_again f (sound f s.0) b
 
-faults_forth : (e : List (List ℕ)) (k : ℕ) (ps : List (List ℕ)) → records_fault e k ps ≡ None → All (λ p. part_fault p ≡ None) ps → materials_fault e k (map material ps) ≡ records_fault e k ps
+faults_forth : (e : List (List ℕ)) (k : ℕ) (ps : List (List ℕ)) → records_fault e k ps ≡ None → AllByRecursion (λ p. part_fault p ≡ None) ps → materials_fault e k (map material ps) ≡ records_fault e k ps
 faults_forth e k [] h a = refl
 faults_forth e k (p ∷ ps) h a =
     let s = numbered_none k _ _ h in

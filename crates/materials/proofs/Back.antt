@@ -2,7 +2,7 @@
 use Rattle.std.proofs.Common.{◌≡◌, ℕ, ◌+◌, ◌-◌, ◌*◌, ◌/◌, ◌%◌, ◌^◌, ◌<◌, ◌≤◌, true, ◌&&◌, eqb, leb, List, [], ◌∷◌, ◌++◌, map, length, get_or, take, drop, ℤ, pos, neg_ℤ, None, sym, refl, ap, ◌∙◌, arith, w32, SFits, to_z, of_z}
 use native.Mathlib.Nat.{div-div-eq-div-mul}
 use lib.Signed.{le_z, lt_z}
-use Rattle.std.specs.List.{flat_map, AllByRecursion as All}
+use Rattle.std.specs.List.{flat_map, AllByRecursion}
 use Rattle.std.proofs.lemmas.List.{append-nil, length-append, length-map, take_at, drop_at, drop-drop}
 use Rattle.std.proofs.lemmas.Int.{ints, to_z-of_z}
 use Rattle.std.proofs.lemmas.Bool.{cond-true, and_parts, and_from, eq-eqb, le-leb, leb-true}
@@ -33,7 +33,7 @@ ofZ_small : (z : ℤ) → SFits w32 z → of_z w32 z < 4294967296
 ofZ_small z f = omega (arith, ints)
 
 -- coefficients, written and read back
-words_coded : (zs : List ℤ) (rest : List ℕ) → All (SFits w32) zs → words (length zs) (flat_map coded zs ++ rest) ≡ zs
+words_coded : (zs : List ℤ) (rest : List ℕ) → AllByRecursion (SFits w32) zs → words (length zs) (flat_map coded zs ++ rest) ≡ zs
 words_coded [] rest h = refl
 words_coded (z ∷ zs) rest h =
     let a : to_z w32 (four_at (coded z)) ≡ z = ap (to_z w32) (four_four (of_z w32 z) (ofZ_small z h.0)) ∙ to_z-of_z w32 z h.0 in
@@ -45,7 +45,7 @@ word_fits w z h k =
     let p = and_parts (le_z (neg_ℤ (pos (2 ^ (w - 1)))) z) (lt_z z (pos (2 ^ (w - 1)))) k in
     grind (arith, ints)
 
-words_fit : (w : ℕ) (zs : List ℤ) → w ≤ 24 → words_ok w zs ≡ true → All (SFits w32) zs
+words_fit : (w : ℕ) (zs : List ℤ) → w ≤ 24 → words_ok w zs ≡ true → AllByRecursion (SFits w32) zs
 words_fit w [] h k = tt
 words_fit w (z ∷ zs) h k = let p = and_parts (inside w z) (words_ok w zs) k in (word_fits w z h p.0, words_fit w zs h p.1)
 
@@ -103,7 +103,7 @@ places o [] = []
 places o (p ∷ ps) = (o, length p) ∷ places (o + length p) ps
 
 abbrev ShortOnes : List (List ℕ) → Type 0
-ShortOnes ps = All (λ p. length p < 65536) ps
+ShortOnes ps = AllByRecursion (λ p. length p < 65536) ps
 
 places_of : (o : ℕ) (ps : List (List ℕ)) (rest : List ℕ) → o + length (flat_map (λ p. p) ps) < 4294967296 → ShortOnes ps → pairs_of (length ps) (pairs o ps ++ rest) ≡ places o ps
 places_of o [] rest h s = refl
@@ -159,7 +159,7 @@ module _ (ps : List (List ℕ)) (few : length ps ≤ 512) (short : ShortOnes ps)
 abbrev Fine : Material → Type 0
 Fine m = material_fault m ≡ None
 
-short_ones : (ms : List Material) → All Fine ms → ShortOnes (map encoded ms) × (length (flat_map (λ p. p) (map encoded ms)) ≤ 116 * length ms)
+short_ones : (ms : List Material) → AllByRecursion Fine ms → ShortOnes (map encoded ms) × (length (flat_map (λ p. p) (map encoded ms)) ≤ 116 * length ms)
 short_ones [] h = (tt, omega arith)
 short_ones (m ∷ ms) h =
     let b = bounded m h.0 in
@@ -168,7 +168,7 @@ short_ones (m ∷ ms) h =
     let l = length-append (encoded m) (flat_map (λ p. p) (map encoded ms)) in
     ((omega arith, r.0), omega arith)
 
-faults_back : (e : List (List ℕ)) (k : ℕ) (ms : List Material) → All Fine ms → records_fault e k (map encoded ms) ≡ materials_fault e k ms
+faults_back : (e : List (List ℕ)) (k : ℕ) (ms : List Material) → AllByRecursion Fine ms → records_fault e k (map encoded ms) ≡ materials_fault e k ms
 faults_back e k [] h = refl
 faults_back e k (m ∷ ms) h =
     let o = fault_back m h.0 in
@@ -176,7 +176,7 @@ faults_back e k (m ∷ ms) h =
     (λ i. numbered k (or_else (o i) (used_fault e (n i))) (records_fault (e ++ n i ∷ []) (k + 1) (map encoded ms)))
     ∙ ap (numbered k (or_else (material_fault m) (used_fault e m.name))) (faults_back (e ++ m.name ∷ []) (k + 1) ms h.1)
 
-materials_back : (ms : List Material) → All Fine ms → map material (map encoded ms) ≡ ms
+materials_back : (ms : List Material) → AllByRecursion Fine ms → map material (map encoded ms) ≡ ms
 materials_back [] h = refl
 materials_back (m ∷ ms) h = λ i. material_back m h.0 i ∷ materials_back ms h.1 i
 
@@ -187,7 +187,7 @@ module _ (ms : List Material) (good : Good ms) where
   few : length ms ≤ 512
   few = leb-true (length ms) 512 (cond_none (leb (length ms) 512) None RecordCount (or_else_none (first ((leb (length ms) 512, RecordCount) ∷ [])) (materials_fault [] 1 ms) good).0).0
 
-  ok : All Fine ms
+  ok : AllByRecursion Fine ms
   ok = all_sound material_fault (λ m. m.name) [] 1 ms none
 
   count : length (map encoded ms) ≤ 512

@@ -1,6 +1,6 @@
 -- One turn of the loops over a file's records. Assumes nothing.
 use Rattle.std.proofs.Common.{◌≡◌, ℕ, zero, suc, ◌+◌, ◌<◌, ◌≤◌, Bool, true, false, cond, ◌||◌, List, [], ◌∷◌, ◌++◌, map, length, get_or, take, drop, Some, None, Option, sym, refl, ap, ◌∙◌, subst, ⊎_elim, add-one, arith}
-use Rattle.std.specs.List.{AllByRecursion as All}
+use Rattle.std.specs.List.{AllByRecursion}
 use Rattle.std.specs.Str.{bytes_eq}
 use Rattle.std.proofs.lemmas.List.{length-map, length-take, at_drop_more, at_drop_all, get_or-map, get_or-take, map_more, drop_all}
 use Rattle.std.proofs.lemmas.Bool.{or_parts, both_ways, cases_order}
@@ -85,7 +85,7 @@ module _ {X : Type 0} (own : X → Option RecordFault) (called : X → List ℕ)
   goes_on i h n k t e = at_name i h false n k t e
 
 -- a list that is not refused has no element with a fault
-pub all_sound : {X : Type 0} (own : X → Option RecordFault) (called : X → List ℕ) (e : List (List ℕ)) (n : ℕ) (xs : List X) → faults_in own called e n xs ≡ None → All (λ x. own x ≡ None) xs
+pub all_sound : {X : Type 0} (own : X → Option RecordFault) (called : X → List ℕ) (e : List (List ℕ)) (n : ℕ) (xs : List X) → faults_in own called e n xs ≡ None → AllByRecursion (λ x. own x ≡ None) xs
 all_sound own called e n [] h = tt
 all_sound own called e n (x ∷ xs) h =
     let k = numbered_none n (or_else (own x) (used_fault e (called x))) (faults_in own called (e ++ called x ∷ []) (n + 1) xs) h in

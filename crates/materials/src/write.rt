@@ -1,6 +1,6 @@
 //! The file of a list of records, written into a lent destination.
 ghost use Rattle.std.specs.Prelude.{◌≡◌, ◌+◌, ◌*◌, ◌≤◌, map, length, None};
-ghost use Rattle.std.specs.List.{flat_map, AllByRecursion as All};
+ghost use Rattle.std.specs.List.{flat_map, AllByRecursion};
 ghost use Rattle.materials.specs.Layout.{Puts, coded, pairs, meaning};
 ghost use Rattle.materials.specs.Lists.{bytes_of, record_fault};
 ghost use Rattle.materials.specs.Numbers.{Tells, write_table};
@@ -58,7 +58,7 @@ fn put_record(destination: &mut [u8], at: usize, item: &Record) -> usize
 
 // Writes the pairs of the records, of which the first begins at `offset`.
 fn put_pairs(destination: &mut [u8], at: usize, offset: usize, records: &[Record]) -> usize
-    requires good { All (λ r. record_fault r ≡ None) records.now }
+    requires good { AllByRecursion (λ r. record_fault r ≡ None) records.now }
     requires room { at + 6 * length records.now ≤ length destination.old }
     requires small { (offset ≤ 3074) × (length records.now ≤ 512) }
     ensures { Puts destination.old at (pairs offset (map bytes_of records.now)) destination.new result }
@@ -76,7 +76,7 @@ fn put_pairs(destination: &mut [u8], at: usize, offset: usize, records: &[Record
 
 // Writes the records one after another.
 fn put_records(destination: &mut [u8], at: usize, records: &[Record]) -> usize
-    requires good { All (λ r. record_fault r ≡ None) records.now }
+    requires good { AllByRecursion (λ r. record_fault r ≡ None) records.now }
     requires room { at + length (flat_map bytes_of records.now) ≤ length destination.old }
     ensures { Puts destination.old at (flat_map bytes_of records.now) destination.new result }
 {

@@ -1,6 +1,6 @@
 -- The lines of a schedule, one after another. Assumes nothing.
 use Rattle.std.proofs.Common.{◌≡◌, ℕ, ◌+◌, ◌<◌, List, [], ◌∷◌, ◌++◌, map, length, get_or, take, None, sym, refl, ap, ◌∙◌, subst, append_assoc, append-nil}
-use Rattle.std.specs.List.{AllByRecursion as All}
+use Rattle.std.specs.List.{AllByRecursion}
 use Rattle.std.proofs.lemmas.List.{map_more}
 use Rattle.wiring.specs.Lists.{Each₂, none₂, more₂}
 use Rattle.materials.specs.declared.record.Record.{Record}
@@ -41,12 +41,12 @@ lines_more rs i x before mid after o h is inv told e =
       e ∙ (ap (λ t. t ++ l) inv.2 ∙ (append_assoc before (joined_lines ls) l ∙ ap (λ t. before ++ t) (sym (joined_push ls l)))),
     )
 
-all_unmap : {X Y : Type 0} (f : X → Y) (P : Y → Type 0) (xs : List X) → All P (map f xs) → All (λ x. P (f x)) xs
+all_unmap : {X Y : Type 0} (f : X → Y) (P : Y → Type 0) (xs : List X) → AllByRecursion P (map f xs) → AllByRecursion (λ x. P (f x)) xs
 all_unmap f P [] h = tt
 all_unmap f P (x ∷ xs) h = (h.0, all_unmap f P xs h.1)
 
 -- the records of good materials have no fault
-pub good_records : (rs : List Record) → Good (map meaning rs) → All (λ r. record_fault r ≡ None) rs
+pub good_records : (rs : List Record) → Good (map meaning rs) → AllByRecursion (λ r. record_fault r ≡ None) rs
 good_records rs g =
     let h = (or_else_none _ (materials_fault [] 1 (map meaning rs)) g).1 in
     all_unmap meaning (λ m. material_fault m ≡ None) rs (all_sound material_fault (λ m. m.name) [] 1 (map meaning rs) h)

@@ -1,6 +1,6 @@
 //! The whole text of the schedule.
 ghost use Rattle.std.specs.Prelude.{◌≡◌, ◌++◌, map, length, IfOk, None, string_bytes, OnOk};
-ghost use Rattle.std.specs.List.{AllByRecursion as All};
+ghost use Rattle.std.specs.List.{AllByRecursion};
 ghost use Rattle.materials.specs.Layout.{meaning};
 ghost use Rattle.materials.specs.Lists.{record_fault};
 ghost use Rattle.schedule_text.specs.Lines.{refused_line, count_line};
@@ -14,7 +14,7 @@ use std::alloc::{AllocError, Global};
 
 // Adds the lines of good records, in their order.
 fn put_lines(heap: Global, text: &mut Vec<u8>, records: &[Record]) -> Result<(), AllocError>
-    requires { All (λ r. record_fault r ≡ None) records.now }
+    requires { AllByRecursion (λ r. record_fault r ≡ None) records.now }
     ensures { OnOk result (LinesOf (map meaning records.now) text.old.items text.new.items) }
 {
     for item in records {

@@ -1,5 +1,5 @@
 use Rattle.std.proofs.Common.{◌≡◌, List, map, length, None, vec_items, sym, ap, ◌∙◌, subst}
-use Rattle.std.specs.List.{AllByRecursion as All}
+use Rattle.std.specs.List.{AllByRecursion}
 use Rattle.std.proofs.lemmas.List.{length-map}
 use Rattle.materials.specs.Layout.{Material, meaning}
 use Rattle.materials.specs.Lists.{record_fault}
@@ -9,7 +9,7 @@ use Rattle.schedule_text.proofs.Lines.{good_records}
 use Rattle.schedule_text.proofs.schedule.schedule.Goals as goal
 
 pub put_lines-requires : goal.put_lines-requires
-put_lines-requires c = subst (All (λ r. record_fault r ≡ None)) (sym c.as_slice.ensures.value) (good_records (vec_items c.in-Ok.records) c.in-Ok.ensures.exactly.0)
+put_lines-requires c = subst (AllByRecursion (λ r. record_fault r ≡ None)) (sym c.as_slice.ensures.value) (good_records (vec_items c.in-Ok.records) c.in-Ok.ensures.exactly.0)
 
 pub returns : goal.returns
 returns c =
