@@ -1,5 +1,5 @@
 ghost use Rattle.std.specs.Prelude.{◌≡◌, ℕ};
-ghost use Rattle.kinds.specs.Kinds.{arithmetic as kind-arithmetic};
+ghost use Rattle.kinds.specs.Kinds.{arithmetic as kind_arithmetic};
 ghost use Rattle.wiring.specs.Graphs.{graph_of};
 ghost use Rattle.wiring.specs.Made.{program_attempt, node_count};
 ghost use Rattle.wiring.specs.Runs.{row_after};
@@ -24,9 +24,9 @@ pub(crate) fn step<K: Kind, R: Rounding, O: Overflow>(
     working: &mut [K::Value],
     sample: i32,
 ) -> Result<K::Value, RunFault>
-    ensures answer { result ≡ stepped (kind-arithmetic K.Kind.model R.Rounding.rule O.Overflow.rule kind.now setting.now).zero (graph_of program.now.wiring) working.new (program_attempt (kind-arithmetic K.Kind.model R.Rounding.rule O.Overflow.rule kind.now setting.now) program.now registers.old working.old sample) }
-    ensures row { working.new ≡ row_after (kind-arithmetic K.Kind.model R.Rounding.rule O.Overflow.rule kind.now setting.now).zero (node_count program.now) working.old (program_attempt (kind-arithmetic K.Kind.model R.Rounding.rule O.Overflow.rule kind.now setting.now) program.now registers.old working.old sample) }
-    ensures registers { registers.new ≡ registers_stepped (kind-arithmetic K.Kind.model R.Rounding.rule O.Overflow.rule kind.now setting.now).zero (graph_of program.now.wiring) registers.old working.new (program_attempt (kind-arithmetic K.Kind.model R.Rounding.rule O.Overflow.rule kind.now setting.now) program.now registers.old working.old sample) }
+    ensures answer { result ≡ stepped (kind_arithmetic K.Kind.model R.Rounding.rule O.Overflow.rule kind.now setting.now).zero (graph_of program.now.wiring) working.new (program_attempt (kind_arithmetic K.Kind.model R.Rounding.rule O.Overflow.rule kind.now setting.now) program.now registers.old working.old sample) }
+    ensures row { working.new ≡ row_after (kind_arithmetic K.Kind.model R.Rounding.rule O.Overflow.rule kind.now setting.now).zero (node_count program.now) working.old (program_attempt (kind_arithmetic K.Kind.model R.Rounding.rule O.Overflow.rule kind.now setting.now) program.now registers.old working.old sample) }
+    ensures registers { registers.new ≡ registers_stepped (kind_arithmetic K.Kind.model R.Rounding.rule O.Overflow.rule kind.now setting.now).zero (graph_of program.now.wiring) registers.old working.new (program_attempt (kind_arithmetic K.Kind.model R.Rounding.rule O.Overflow.rule kind.now setting.now) program.now registers.old working.old sample) }
 {
     program.work(kind, setting, registers, working, sample)?;
     program.take_registers(registers, working)?;

@@ -2,7 +2,7 @@
 ghost use Rattle.std.specs.Prelude.{◌≡◌};
 ghost use Rattle.arithmetic.specs.Formats.{format_number};
 ghost use Rattle.forms.specs.Built.{form_number};
-ghost use Rattle.materials.specs.Refusals.{fault_number, number as refusal-number};
+ghost use Rattle.materials.specs.Refusals.{fault_number, number as refusal_number};
 ghost use Rattle.console_text.specs.declared.halt.Halt.TheVariants.{Refused, Memory};
 ghost use Rattle.console_text.specs.Halts.{halted, unopened};
 
@@ -24,7 +24,7 @@ pub enum Halt {
 }
 
 impl From<Refusal> for Halt {
-    ghost from_gives = { λ e r. r ≡ halted (refusal-number e) };
+    ghost from_gives = { λ e r. r ≡ halted (refusal_number e) };
 
     fn from(refusal: Refusal) -> Halt {
         match refusal.number() {

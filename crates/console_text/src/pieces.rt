@@ -1,6 +1,6 @@
 //! A text cut at a byte.
 ghost use Rattle.std.specs.Prelude.{◌≡◌, [], map, IfOk, vec_items};
-ghost use Rattle.console_text.specs.Pieces.{ended as ended_by, rest as rest-behind, pieces as pieces_of, lines as lines_of};
+ghost use Rattle.console_text.specs.Pieces.{ended as ended_by, rest as rest_behind, pieces as pieces_of, lines as lines_of};
 
 use std::alloc::{AllocError, Global};
 
@@ -15,7 +15,7 @@ struct Cut {
 
 // Cuts a text at a byte.
 fn cut_at(heap: Global, text: &[u8], at: u8) -> Result<Cut, AllocError>
-    ensures { IfOk result (λ c. (map vec_items c.ended.items ≡ ended_by at [] text.now) × (c.rest.items ≡ rest-behind at [] text.now)) }
+    ensures { IfOk result (λ c. (map vec_items c.ended.items ≡ ended_by at [] text.now) × (c.rest.items ≡ rest_behind at [] text.now)) }
 {
     let mut ended = Vec::new(heap);
     let mut rest = Vec::new(heap);

@@ -2,7 +2,7 @@
 ghost use Rattle.std.specs.Prelude.{◌≡◌, IfOk, Some, Err, string_bytes, MatchResult};
 ghost use Rattle.wiring.specs.Graphs.{graph_of};
 ghost use Rattle.materials.specs.Layout.{meaning};
-ghost use Rattle.materials.specs.Refusals.{RefusedOrMemory, number as refusal-number};
+ghost use Rattle.materials.specs.Refusals.{RefusedOrMemory, number as refusal_number};
 ghost use Rattle.materials.specs.Files.{look_up_refusal};
 ghost use Rattle.console_text.specs.Halts.{halted};
 ghost use Rattle.console_text.specs.Sessions.{LoggedCalls, Session};
@@ -120,7 +120,7 @@ pub fn session(
     input: &[u8],
 ) -> Result<String, Halt>
     ensures told { IfOk result (λ s. ConsoleText file.now name.now kind.now input.now (string_bytes s)) }
-    ensures refused { (e : Refusal) → look_up_refusal file.now name.now ≡ Some e → result ≡ Err (halted (refusal-number e)) }
+    ensures refused { (e : Refusal) → look_up_refusal file.now name.now ≡ Some e → result ≡ Err (halted (refusal_number e)) }
 {
     let item = record_of(heap, file, name)?;
     over_kind(heap, kind, &item, input)

@@ -1,6 +1,6 @@
 ghost use Rattle.std.specs.Prelude.{◌≡◌, ◌-◌, ◌≤◌, length, IfOk};
 ghost use Rattle.wiring.specs.Graphs.{graph_of};
-ghost use Rattle.forms.specs.Forms.{direct1 as direct1-graph, direct1_nodes, direct1_output};
+ghost use Rattle.forms.specs.Forms.{direct1 as direct1_graph, direct1_nodes, direct1_output};
 
 use crate::parts::{add_delays, add_differences, add_sums, add_taps, start};
 use std::alloc::{AllocError, Global};
@@ -27,7 +27,7 @@ fn lay_nodes(heap: Global, b: &[i32], a: &[i32]) -> Result<(Vec<Node>, usize), A
 pub(crate) fn direct1(heap: Global, b: &[i32], a: &[i32]) -> Result<Wiring, AllocError>
     requires some { 1 ≤ length b.now }
     requires few { (length b.now ≤ 9) × (length a.now ≤ 8) }
-    ensures { IfOk result (λ w. graph_of w ≡ direct1-graph (length b.now - 1) (length a.now)) }
+    ensures { IfOk result (λ w. graph_of w ≡ direct1_graph (length b.now - 1) (length a.now)) }
 {
     let (nodes, output) = lay_nodes(heap, b, a)?;
     let mut sources = Vec::new(heap);

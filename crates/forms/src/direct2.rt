@@ -1,6 +1,6 @@
 ghost use Rattle.std.specs.Prelude.{◌≡◌, ◌-◌, ◌≤◌, length, IfOk};
 ghost use Rattle.wiring.specs.Graphs.{graph_of};
-ghost use Rattle.forms.specs.Forms.{direct2 as direct2-graph};
+ghost use Rattle.forms.specs.Forms.{direct2 as direct2_graph};
 
 use crate::parts::{add_delays, add_differences, add_sums, add_taps, longer, start};
 use std::alloc::{AllocError, Global};
@@ -10,7 +10,7 @@ use wiring::graph::Wiring;
 pub(crate) fn direct2(heap: Global, b: &[i32], a: &[i32]) -> Result<Wiring, AllocError>
     requires some { 1 ≤ length b.now }
     requires few { (length b.now ≤ 9) × (length a.now ≤ 8) }
-    ensures { IfOk result (λ w. graph_of w ≡ direct2-graph (length b.now - 1) (length a.now)) }
+    ensures { IfOk result (λ w. graph_of w ≡ direct2_graph (length b.now - 1) (length a.now)) }
 {
     let later = &b[1..];
     let order = longer(later, a).len();

@@ -1,6 +1,6 @@
 ghost use Rattle.std.specs.Prelude.{◌≡◌, ◌+◌, ◌^◌, ◌<◌, max, ◌∷◌, ◌++◌, length, IfOk, vec_len, OnOk};
 ghost use Rattle.wiring.specs.declared.graph.Node.TheVariants.{Input};
-ghost use Rattle.forms.specs.Parts.{chain, registers as register-nodes, taps, gains, sums, differences, delays};
+ghost use Rattle.forms.specs.Parts.{chain, registers as register_nodes, taps, gains, sums, differences, delays};
 
 use std::alloc::{AllocError, Global};
 use wiring::graph::Node;
@@ -14,7 +14,7 @@ pub(crate) fn longer<'a>(p: &'a [i32], q: &'a [i32]) -> &'a [i32]
 
 // The input and so many registers.
 pub(crate) fn start(heap: Global, registers: usize) -> Result<Vec<Node>, AllocError>
-    ensures { IfOk result (λ nodes. nodes.items ≡ Input ∷ register-nodes registers) }
+    ensures { IfOk result (λ nodes. nodes.items ≡ Input ∷ register_nodes registers) }
 {
     let mut nodes = Vec::new(heap);
     nodes.push(Node::Input)?;

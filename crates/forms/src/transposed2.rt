@@ -1,6 +1,6 @@
 ghost use Rattle.std.specs.Prelude.{◌≡◌, ◌-◌, ◌≤◌, length, IfOk};
 ghost use Rattle.wiring.specs.Graphs.{graph_of};
-ghost use Rattle.forms.specs.Forms.{transposed2 as transposed2-graph, transposed2_gain};
+ghost use Rattle.forms.specs.Forms.{transposed2 as transposed2_graph, transposed2_gain};
 
 use crate::parts::{add_gains, longer, start};
 use crate::totals::add_totals;
@@ -28,7 +28,7 @@ fn gain(heap: Global) -> Result<Wiring, AllocError>
 pub(crate) fn transposed2(heap: Global, b: &[i32], a: &[i32]) -> Result<Wiring, AllocError>
     requires some { 1 ≤ length b.now }
     requires few { (length b.now ≤ 9) × (length a.now ≤ 8) }
-    ensures { IfOk result (λ w. graph_of w ≡ transposed2-graph (length b.now - 1) (length a.now)) }
+    ensures { IfOk result (λ w. graph_of w ≡ transposed2_graph (length b.now - 1) (length a.now)) }
 {
     let later = &b[1..];
     let order = longer(later, a).len();

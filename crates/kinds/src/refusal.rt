@@ -1,5 +1,5 @@
 ghost use Rattle.std.specs.Prelude.{◌≡◌};
-ghost use Rattle.kinds.specs.Arithmetics.{number as refusal-number};
+ghost use Rattle.kinds.specs.Arithmetics.{number as refusal_number};
 
 // Why a kind of value refuses an operation.
 #[derive(Clone, Copy, PartialEq, Eq, Debug)]
@@ -17,7 +17,7 @@ pub enum Refusal {
 impl Refusal {
     // The number of the refusal.
     pub fn number(self) -> u32
-        ensures { result ≡ refusal-number self }
+        ensures { result ≡ refusal_number self }
     {
         match self {
             Refusal::Overflow => 18,

@@ -1,7 +1,7 @@
 //! Lists of coefficients, in bytes and in memory.
 ghost use Rattle.std.specs.Prelude.{◌≡◌, ◌/◌, length, IfOk};
 ghost use Rattle.arithmetic.specs.Formats.{width};
-ghost use Rattle.materials.specs.Layout.{words as words-in};
+ghost use Rattle.materials.specs.Layout.{words as words_in};
 ghost use Rattle.materials.specs.Records.{words_ok};
 
 use arithmetic::format::Format;
@@ -9,7 +9,7 @@ use std::alloc::{AllocError, Global};
 
 // Whether the coefficients that stand in the bytes are words of the format.
 pub(crate) fn bytes_hold(bytes: &[u8], format: Format) -> bool
-    ensures { result ≡ words_ok (width format) (words-in (length bytes.now / 4) bytes.now) }
+    ensures { result ≡ words_ok (width format) (words_in (length bytes.now / 4) bytes.now) }
 {
     let mut rest = bytes;
     while let [a, b, c, d, more @ ..] = rest {
@@ -23,7 +23,7 @@ pub(crate) fn bytes_hold(bytes: &[u8], format: Format) -> bool
 
 // The coefficients that stand in the bytes.
 pub(crate) fn decode(heap: Global, bytes: &[u8]) -> Result<Vec<i32>, AllocError>
-    ensures { IfOk result (λ v. v.items ≡ words-in (length bytes.now / 4) bytes.now) }
+    ensures { IfOk result (λ v. v.items ≡ words_in (length bytes.now / 4) bytes.now) }
 {
     let mut out = Vec::with_capacity(heap, bytes.len() / 4)?;
     let mut rest = bytes;

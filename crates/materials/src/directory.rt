@@ -2,7 +2,7 @@
 ghost use Rattle.std.specs.Prelude.{◌≡◌, ◌+◌, ◌*◌, ◌<◌, ◌≤◌, [], length, Some, None, MatchResult, slice_index_or};
 ghost use Rattle.materials.specs.Refusals.{Checks};
 ghost use Rattle.materials.specs.Files.{count_of, misplaced, file_fault};
-ghost use Rattle.materials.specs.Files.{directory as pairs-in, parts as Parts-in};
+ghost use Rattle.materials.specs.Files.{directory as pairs_in, parts as parts_in};
 
 use crate::refusal::Refusal;
 
@@ -10,7 +10,7 @@ use crate::refusal::Refusal;
 pub(crate) fn pair(file: &[u8], i: usize) -> (u32, u16)
     requires inside { 2 + 6 * count_of file.now ≤ length file.now }
     requires present { i < count_of file.now }
-    ensures { result ≡ slice_index_or (pairs-in file.now) i (0, 0) }
+    ensures { result ≡ slice_index_or (pairs_in file.now) i (0, 0) }
 {
     let at = 2 + 6 * i;
     let offset = u32::from_be_bytes([file[at], file[at + 1], file[at + 2], file[at + 3]]);
@@ -22,7 +22,7 @@ pub(crate) fn pair(file: &[u8], i: usize) -> (u32, u16)
 fn check_places(file: &[u8], count: usize, start: usize) -> Result<(), Refusal>
     requires inside { 2 + 6 * count_of file.now ≤ length file.now }
     requires counted { count ≡ count_of file.now }
-    ensures { Checks (misplaced 1 start (pairs-in file.now) (length file.now)) result }
+    ensures { Checks (misplaced 1 start (pairs_in file.now) (length file.now)) result }
 {
     let mut end = start;
     for i in 0..count {
@@ -61,7 +61,7 @@ pub(crate) fn check_directory(file: &[u8]) -> Result<usize, Refusal>
 pub(crate) fn part_of(file: &[u8], i: usize) -> &[u8]
     requires sound { file_fault file.now ≡ None }
     requires present { i < count_of file.now }
-    ensures { result.now ≡ slice_index_or (Parts-in file.now) i [] }
+    ensures { result.now ≡ slice_index_or (parts_in file.now) i [] }
 {
     let (offset, length) = pair(file, i);
     let start = offset as usize;

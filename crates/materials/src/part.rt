@@ -3,7 +3,7 @@ ghost use Rattle.std.specs.Prelude.{◌≡◌, ◌≤◌, length, Some, None, Ma
 ghost use Rattle.arithmetic.specs.Formats.{width};
 ghost use Rattle.materials.specs.Layout.{seen};
 ghost use Rattle.materials.specs.Records.{coefficients_fault, tail_fault, part_fault, material_of, Pieces};
-ghost use Rattle.materials.specs.Records.{material as material-in, name_of as name_in};
+ghost use Rattle.materials.specs.Records.{material as material_in, name_of as name_in};
 
 use crate::coefficients::bytes_hold;
 use crate::fields::{all_printable, check_counts, choices_of, format_of};
@@ -76,7 +76,7 @@ fn examine_tail<'a>(name: &'a [u8], tail: &'a [u8]) -> Result<Fields<'a>, Record
 
 /// The fields of a record that lies in these bytes, or the first thing that is wrong with it.
 pub fn examine(part: &[u8]) -> Result<Fields<'_>, RecordFault>
-    ensures { MatchResult result (λ f. (part_fault part.now ≡ None) × (seen f ≡ material-in part.now)) (λ e. part_fault part.now ≡ Some e) }
+    ensures { MatchResult result (λ f. (part_fault part.now ≡ None) × (seen f ≡ material_in part.now)) (λ e. part_fault part.now ≡ Some e) }
 {
     let [size, named @ ..] = part else {
         return Err(RecordFault::Empty);

@@ -3,7 +3,7 @@ ghost use Rattle.arithmetic.specs.Formats.{format_number};
 ghost use Rattle.wiring.specs.Programs.{program_number};
 ghost use Rattle.forms.specs.Built.{form_number};
 ghost use Rattle.walkthrough.specs.declared.halt.Halt.TheVariants.{Refused, Memory, Print};
-ghost use Rattle.materials.specs.Refusals.{fault_number, number as refusal-number, record_number};
+ghost use Rattle.materials.specs.Refusals.{fault_number, number as refusal_number, record_number};
 ghost use Rattle.walkthrough.specs.Halts.{halted, halted_run, halted_file};
 
 use arithmetic::format::FormatFault;
@@ -48,7 +48,7 @@ impl From<FormFault> for Halt {
 }
 
 impl From<Refusal> for Halt {
-    ghost from_gives = { λ e r. r ≡ halted_file (refusal-number e) (record_number e) };
+    ghost from_gives = { λ e r. r ≡ halted_file (refusal_number e) (record_number e) };
 
     fn from(refusal: Refusal) -> Halt {
         match (refusal.number(), refusal.record()) {

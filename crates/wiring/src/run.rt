@@ -1,5 +1,5 @@
 ghost use Rattle.std.specs.Prelude.{◌≡◌, ℕ, ◌^◌, ◌<◌, ◌≤◌, true, [], ◌++◌, length, drop, replicate, pos, None};
-ghost use Rattle.kinds.specs.Kinds.{arithmetic as kind-arithmetic};
+ghost use Rattle.kinds.specs.Kinds.{arithmetic as kind_arithmetic};
 ghost use Rattle.wiring.specs.Checks.{node_fault};
 ghost use Rattle.wiring.specs.Runs.{node_value, work, answered, row_after};
 ghost use Rattle.wiring.specs.Running.{Small, Named};
@@ -21,7 +21,7 @@ pub(crate) fn clear<K: Kind, R: Rounding, O: Overflow>(
     n: usize,
 )
     requires { n ≤ length row.old }
-    ensures { row.new ≡ replicate n (kind-arithmetic K.Kind.model R.Rounding.rule O.Overflow.rule kind.now setting.now).zero ++ drop n row.old }
+    ensures { row.new ≡ replicate n (kind_arithmetic K.Kind.model R.Rounding.rule O.Overflow.rule kind.now setting.now).zero ++ drop n row.old }
 {
     let zero = kind.zero(setting);
     for i in 0..n {
@@ -41,7 +41,7 @@ fn value<K: Kind, R: Rounding, O: Overflow>(
 ) -> Result<K::Value, Refusal>
     requires small { Small coefficients.now }
     requires named { node_fault (length registers.now) (length coefficients.now) (length working.now) node ≡ None }
-    ensures { result ≡ node_value (kind-arithmetic K.Kind.model R.Rounding.rule O.Overflow.rule kind.now setting.now) coefficients.now registers.now sample working.now node }
+    ensures { result ≡ node_value (kind_arithmetic K.Kind.model R.Rounding.rule O.Overflow.rule kind.now setting.now) coefficients.now registers.now sample working.now node }
 {
     match node {
         Node::Input => kind.sample(setting, sample),
@@ -71,8 +71,8 @@ pub(crate) fn work_nodes<K: Kind, R: Rounding, O: Overflow>(
     requires small { Small coefficients.now }
     requires named { Named (length registers.now) (length coefficients.now) nodes.now }
     requires room { length nodes.now ≤ length working.old }
-    ensures answer { result ≡ answered (work (kind-arithmetic K.Kind.model R.Rounding.rule O.Overflow.rule kind.now setting.now) coefficients.now registers.now sample [] nodes.now) }
-    ensures row { working.new ≡ row_after (kind-arithmetic K.Kind.model R.Rounding.rule O.Overflow.rule kind.now setting.now).zero (length nodes.now) working.old (work (kind-arithmetic K.Kind.model R.Rounding.rule O.Overflow.rule kind.now setting.now) coefficients.now registers.now sample [] nodes.now) }
+    ensures answer { result ≡ answered (work (kind_arithmetic K.Kind.model R.Rounding.rule O.Overflow.rule kind.now setting.now) coefficients.now registers.now sample [] nodes.now) }
+    ensures row { working.new ≡ row_after (kind_arithmetic K.Kind.model R.Rounding.rule O.Overflow.rule kind.now setting.now).zero (length nodes.now) working.old (work (kind_arithmetic K.Kind.model R.Rounding.rule O.Overflow.rule kind.now setting.now) coefficients.now registers.now sample [] nodes.now) }
 {
     for (i, node) in nodes.iter().enumerate() {
         match value(

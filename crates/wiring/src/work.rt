@@ -1,6 +1,6 @@
 ghost use Rattle.std.specs.Prelude.{◌≡◌, ◌<◌, ◌++◌, length, drop, replicate, Ok, slice_index_or};
 ghost use Rattle.arithmetic.specs.Settings.{meaning};
-ghost use Rattle.kinds.specs.Kinds.{arithmetic as kind-arithmetic};
+ghost use Rattle.kinds.specs.Kinds.{arithmetic as kind_arithmetic};
 ghost use Rattle.wiring.specs.Graphs.{graph_of};
 ghost use Rattle.wiring.specs.Runs.{answered, or_fault, row_after, registers_after};
 ghost use Rattle.wiring.specs.Made.{program_attempt, node_count, register_count, program_rows_fault, register_row_fault, unless_fault};
@@ -45,8 +45,8 @@ impl Program {
         working: &mut [K::Value],
         sample: i32,
     ) -> Result<(), RunFault>
-        ensures answer { result ≡ answered (program_attempt (kind-arithmetic K.Kind.model R.Rounding.rule O.Overflow.rule kind.now setting.now) self.now registers.now working.old sample) }
-        ensures row { working.new ≡ row_after (kind-arithmetic K.Kind.model R.Rounding.rule O.Overflow.rule kind.now setting.now).zero (node_count self.now) working.old (program_attempt (kind-arithmetic K.Kind.model R.Rounding.rule O.Overflow.rule kind.now setting.now) self.now registers.now working.old sample) }
+        ensures answer { result ≡ answered (program_attempt (kind_arithmetic K.Kind.model R.Rounding.rule O.Overflow.rule kind.now setting.now) self.now registers.now working.old sample) }
+        ensures row { working.new ≡ row_after (kind_arithmetic K.Kind.model R.Rounding.rule O.Overflow.rule kind.now setting.now).zero (node_count self.now) working.old (program_attempt (kind_arithmetic K.Kind.model R.Rounding.rule O.Overflow.rule kind.now setting.now) self.now registers.now working.old sample) }
         ensures covers { RunCovers (meaning R.Rounding.rule O.Overflow.rule setting.now) (K.Kind.model kind.now (meaning R.Rounding.rule O.Overflow.rule setting.now)) }
     {
         if let Some(fault) = self.row_fault(registers.len(), working.len()) {
@@ -90,7 +90,7 @@ impl Program {
         registers: &mut [K::Value],
     ) -> Result<(), RunFault>
         ensures answer { result ≡ or_fault (register_row_fault self.now (length registers.old)) (Ok tt) }
-        ensures registers { registers.new ≡ unless_fault (register_row_fault self.now (length registers.old)) (replicate (register_count self.now) (kind-arithmetic K.Kind.model R.Rounding.rule O.Overflow.rule kind.now setting.now).zero ++ drop (register_count self.now) registers.old) registers.old }
+        ensures registers { registers.new ≡ unless_fault (register_row_fault self.now (length registers.old)) (replicate (register_count self.now) (kind_arithmetic K.Kind.model R.Rounding.rule O.Overflow.rule kind.now setting.now).zero ++ drop (register_count self.now) registers.old) registers.old }
     {
         let count = self.wiring.sources.len();
         if registers.len() < count {
