@@ -65,7 +65,7 @@ pub fn work<K: Kind + Drop>(
 ) -> Result<String, Halt>
 where
     K::Value: Shown,
-    ensures { IfOk result (λ s. Session K.Kind.model fields kind name.now (meaning item.now) input.now (string_bytes s)) }
+    ensures { IfOk result (λ s. Session K.Kind.model K.Value.fields kind name.now (meaning item.now) input.now (string_bytes s)) }
 {
     let choices = item.choices()?;
     let setting = setting_of(item, choices);

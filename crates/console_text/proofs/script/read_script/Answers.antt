@@ -3,7 +3,7 @@ use Rattle.std.proofs.lemmas.List.{take_all}
 use Rattle.console_text.specs.Calls.{Asks, Reads, no_lines}
 use Rattle.console_text.proofs.Reading.{reads_more, unread_more}
 use Rattle.console_text.proofs.script.read_script.Goals as goal
-use Rattle.console_text.proofs.script.read_script.Goals.{in-Some+in-ok-push+in-ok-push-2, in-None+in-ok-push-3}
+use Rattle.console_text.proofs.script.read_script.Goals.{in-Some+in_ok-push-in-Some+in_ok-push-in-Some-2, in-None+in_ok-push-in-None}
 
 pub loop-line-init : goal.loop-line-init
 loop-line-init g c = subst (λ ms. Reads c.args.registers c.args.nodes [] ms (vec_items c.new-calls.result)) (sym c.new-marks.ensures.items) (subst (Reads c.args.registers c.args.nodes [] []) (sym c.new-calls.ensures.items) no_lines)
@@ -16,14 +16,14 @@ loop-line-preserved g c =
     let l = c.line-item.result in
     let i = c.loop-line.line-index in
     elim c.match-branch-2.branch [
-      | in-Some+in-ok-push+in-ok-push-2 w ↦
+      | in-Some+in_ok-push-in-Some+in_ok-push-in-Some-2 w ↦
           reads_more r n ls i l w.in-Some.call (vec_items c.loop-line.marks) (vec_items c.match-branch-2.marks) (vec_items c.loop-line.calls) (vec_items c.match-branch-2.calls) c.loop-line-test.true c.line-item.is c.loop-line.invariant
           (subst (λ t. Asks {V = g.row.V.Denot} r n t (Some w.in-Some.call)) c.as_slice.ensures.value (subst (Asks r n c.as_slice.result.now) w.in-Some.is c.in_ok-call.ensures))
-          (ap vec_items w.marks-is ∙ w.in-ok-push-2.ensures.items) (ap vec_items w.calls-is ∙ w.in-ok-push.ensures.items)
-      | in-None+in-ok-push-3 w ↦
+          (ap vec_items w.marks-is ∙ w.in_ok-push-in-Some-2.ensures.items) (ap vec_items w.calls-is ∙ w.in_ok-push-in-Some.ensures.items)
+      | in-None+in_ok-push-in-None w ↦
           unread_more r n ls i l (vec_items c.loop-line.marks) (vec_items c.match-branch-2.marks) (vec_items c.match-branch-2.calls) c.loop-line-test.true c.line-item.is (subst (λ v. Reads r n (map vec_items (take i ls)) (vec_items c.loop-line.marks) (vec_items v)) (sym w.calls-is) c.loop-line.invariant)
           (subst (λ t. Asks {V = g.row.V.Denot} r n t None) c.as_slice.ensures.value (subst (Asks r n c.as_slice.result.now) w.in-None.is c.in_ok-call.ensures))
-          (ap vec_items w.marks-is ∙ w.in-ok-push-3.ensures.items)
+          (ap vec_items w.marks-is ∙ w.in_ok-push-in-None.ensures.items)
     ]
 
 pub returns : goal.returns

@@ -2,7 +2,7 @@ use Rattle.std.proofs.Common.{◌+◌, [], ◌∷◌, ◌++◌, string_bytes, sy
 use Rattle.std.proofs.lemmas.Result.{IfOk-from_err}
 use Rattle.console_text.proofs.Answering.{AnsweredTo, answers_start, answers_room, answers_read, answers_unread, answers_done}
 use Rattle.console_text.proofs.text.put_answers.Goals as goal
-use Rattle.console_text.proofs.text.put_answers.Goals.{then-is-call+in-ok-line+in-ok-put-line, else-is-call+in-ok-line-2+in-ok-put-line-2}
+use Rattle.console_text.proofs.text.put_answers.Goals.{then-is_call+in_ok-line+in_ok-put_line, else-is_call+in_ok-line-2+in_ok-put_line-2}
 
 pub loop-i-init : goal.loop-i-init
 loop-i-init g c = answers_start g.V.Shown.fields c.args.marks.now c.args.log.now (string_bytes c.args.text.now) c.requires
@@ -23,12 +23,12 @@ loop-i-preserved g c =
     let text = string_bytes c.loop-i.text in
     let more = string_bytes c.if-is_call.text in
     elim c.if-is_call.branch [
-      | then-is-call+in-ok-line+in-ok-put-line w ↦
+      | then-is_call+in_ok-line+in_ok-put_line w ↦
           let e = w.index-log-next.result in
           subst (λ n. AnsweredTo shown marks log start (i + 1) n more) (sym w.next-is)
           (answers_read shown marks log start i c.loop-i.next text more c.loop-i-test.true c.loop-i.invariant w.if-is_call.true e w.index-log-next.is
           (ap string_bytes w.text-is ∙ (w.in_ok-put_line.ensures ∙ ap (λ t. text ++ (t ++ 10 ∷ [])) (w.as_str.ensures.value ∙ w.in_ok-line.ensures))))
-      | else-is-call+in-ok-line-2+in-ok-put-line-2 w ↦
+      | else-is_call+in_ok-line-2+in_ok-put_line-2 w ↦
           subst (λ n. AnsweredTo shown marks log start (i + 1) n more) (sym w.next-is)
           (answers_unread shown marks log start i c.loop-i.next text more c.loop-i-test.true c.loop-i.invariant w.if-is_call.false
           (ap string_bytes w.text-is ∙ (w.in_ok-put_line-2.ensures ∙ ap (λ t. text ++ (t ++ 10 ∷ [])) (w.as_str-else-is_call.ensures.value ∙ w.in_ok-line-2.ensures))))
