@@ -1,11 +1,10 @@
 -- Lines that ask for no call.
-use Rattle.std.proofs.Common.{◌≡◌, ℕ, ◌⊎◌, List, [], ◌∷◌, ◌++◌, length, get_or, drop, ℤ, None, vec_items, codes, sym, refl, ap, ◌∙◌, subst, inl, inr, arith}
+use Rattle.std.proofs.Common.{◌≡◌, ℕ, List, ◌++◌, get_or, drop, ℤ, None, vec_items, codes, sym, ap, ◌∙◌, subst, inl, inr, arith}
 use Rattle.wiring.specs.Lists.{Each₂}
-use Rattle.replay.specs.declared.log.Call.{Call}
 use Rattle.replay.specs.declared.log.Call.TheVariants.{Feed, Swap, Hush}
 use Rattle.console_text.specs.Numbers.{Plain, Writes}
 use Rattle.console_text.specs.Pieces.{pieces}
-use Rattle.console_text.specs.Calls.{Swaps, AsksCall, Asks}
+use Rattle.console_text.specs.Calls.{Asks}
 
 -- two texts that begin with other letters
 apart : (xs ys : List ℕ) → xs ≡ ys → (get_or xs 0 0 ≡ get_or ys 0 0 → ⊥) → ⊥

@@ -1,9 +1,9 @@
 -- The record that stands for a name.
-use Rattle.std.proofs.Common.{◌≡◌, ℕ, ◌+◌, ◌-◌, ◌<◌, ◌≤◌, Bool, true, false, cond, List, [], ◌∷◌, map, length, get_or, Some, None, Option, sym, refl, ap, ◌∙◌, arith}
+use Rattle.std.proofs.Common.{◌≡◌, ℕ, ◌+◌, ◌-◌, ◌<◌, ◌≤◌, Bool, true, false, cond, List, [], ◌∷◌, map, length, get_or, Some, Option, sym, ap, ◌∙◌, arith}
 use Rattle.std.proofs.lemmas.List.{length-map, get_or-map}
 use Rattle.std.specs.Str.{bytes_eq}
 use Rattle.materials.specs.declared.record.Record.{Record}
-use Rattle.materials.specs.Layout.{Material, meaning}
+use Rattle.materials.specs.Layout.{meaning}
 use Rattle.materials.specs.Records.{material, name_of}
 use Rattle.materials.specs.Files.{parts, standing, stands_for}
 

@@ -1,12 +1,11 @@
 -- The limits of a watch, from the sheet's answer.
-use Rattle.std.proofs.Common.{◌≡◌, ℕ, ◌+◌, ◌-◌, ◌^◌, ◌<◌, ◌≤◌, Bool, true, false, leb, List, length, replicate, ℤ, pos, nat_abs, Some, None, Ok, Err, Option, sym, refl, ap, ◌∙◌, subst, arith}
+use Rattle.std.proofs.Common.{◌≡◌, ℕ, ◌+◌, ◌-◌, ◌^◌, ◌≤◌, Bool, true, false, leb, List, length, replicate, ℤ, pos, nat_abs, Some, None, Ok, Err, Option, sym, refl, ap, ◌∙◌, subst, arith}
 use mathlib.Core.Path.{transport}
 use Rattle.std.proofs.lemmas.Nat.{pow_below}
 use Rattle.std.proofs.lemmas.List.{length-replicate}
 use Rattle.std.proofs.lemmas.Bool.{and_from, le-leb, lt-ltb, leb-true}
 use Rattle.std.specs.Option.{option_map}
 use Rattle.arithmetic.specs.Choices.{rounding_rule, overflow_rule}
-use Rattle.arithmetic.specs.Formats.{format_fault}
 use Rattle.arithmetic.specs.Settings.{meaning, SettingAnswer}
 use Rattle.arithmetic.specs.Words.{half}
 use Rattle.arithmetic.specs.declared.choice.RoundingChoice.{RoundingChoice}
@@ -16,7 +15,6 @@ use Rattle.arithmetic.specs.declared.setting.FixedPoint.{FixedPoint}
 use Rattle.wiring.specs.Graphs.{Graph}
 use Rattle.wiring.specs.Checks.{unless, first, wiring_fault, counts_fault, naming_fault}
 use Rattle.wiring.specs.Programs.{list_fault}
-use Rattle.wiring.specs.declared.faults.ProgramFault.{ProgramFault}
 use Rattle.wiring.specs.declared.faults.ProgramFault.TheVariants.{Wiring}
 use Rattle.sheet.specs.declared.figures.Figures.{Figures}
 use Rattle.sheet.specs.declared.figures.SheetFault.{SheetFault}

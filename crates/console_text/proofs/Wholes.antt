@@ -1,5 +1,5 @@
 -- The text of a session, from its parts.
-use Rattle.std.proofs.Common.{◌≡◌, ℕ, suc, ◌+◌, ◌<◌, Bool, true, false, List, [], ◌∷◌, ◌++◌, map, length, drop, ℤ, pos, Some, None, Option, sym, refl, ap, ◌∙◌, subst, arith}
+use Rattle.std.proofs.Common.{◌≡◌, ℕ, suc, ◌+◌, ◌<◌, Bool, List, [], ◌∷◌, length, drop, ℤ, pos, Some, Option, refl, ap, ◌∙◌, subst, arith}
 use mathlib.Core.Path.{transport}
 use Rattle.std.proofs.lemmas.List.{length-map}
 use Rattle.arithmetic.specs.Settings.{FixedArithmetic}
@@ -17,8 +17,7 @@ use Rattle.materials.specs.Layout.{Material}
 use Rattle.materials.specs.Letters.{form_of, rounding_of, overflow_of}
 use Rattle.console_text.specs.Pieces.{lines}
 use Rattle.console_text.specs.Calls.{Reads, no_lines, a_call, unread}
-use Rattle.console_text.specs.Lines.{opened_line}
-use Rattle.console_text.specs.Texts.{read_count, answers, marked_text, Answered, no_lines_left, answer, unanswered, SessionText}
+use Rattle.console_text.specs.Texts.{read_count, answers, marked_text, Answered, no_lines_left, answer, unanswered}
 use Rattle.console_text.specs.Watching.{SheetLimits}
 use Rattle.console_text.specs.Sessions.{setting_in, wiring_in, coefficients_in, range_in, LoggedCalls, Session}
 use Rattle.console_text.proofs.Limiting.{limits_watch}

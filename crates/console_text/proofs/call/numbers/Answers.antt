@@ -1,4 +1,4 @@
-use Rattle.std.proofs.Common.{[], map, vec_items, sym, ap, subst, rules}
+use Rattle.std.proofs.Common.{[], map, vec_items, sym, subst, rules}
 use Rattle.std.proofs.lemmas.List.{take_all}
 use Rattle.wiring.specs.Lists.{Each₂, none₂}
 use Rattle.console_text.specs.Numbers.{Plain, Writes}

@@ -1,11 +1,11 @@
-use Rattle.std.proofs.Common.{◌≡◌, ◌++◌, map, length, IfOk, Some, None, vec_items, codes, sym, refl, ap, ◌∙◌, subst, inl, inr, w32, SFits}
+use Rattle.std.proofs.Common.{◌≡◌, ◌++◌, map, length, IfOk, Some, vec_items, codes, sym, refl, ap, ◌∙◌, subst, inl, inr, w32, SFits}
 use Rattle.std.proofs.lemmas.List.{length-replicate}
 use Rattle.std.proofs.lemmas.Int.{to_z-of_z}
 use Rattle.std.proofs.lemmas.Slice.Eq.{slice_eq-Decides, strip_prefix_is}
 use Rattle.console_text.specs.Numbers.{NumbersOf}
 use Rattle.console_text.specs.Pieces.{pieces}
 use Rattle.console_text.specs.Calls.{Asks}
-use Rattle.console_text.proofs.Asking.{no_call, no_feed, no_swap}
+use Rattle.console_text.proofs.Asking.{no_swap}
 use Rattle.console_text.proofs.call.read_call.Goals as goal
 use Rattle.console_text.proofs.call.read_call.Goals.{in-Some-2, in-None-2}
 use Rattle.std.proofs.lemmas.Bool.Decides.{Decides-eqb}

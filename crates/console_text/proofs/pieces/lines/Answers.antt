@@ -1,5 +1,5 @@
-use Rattle.std.proofs.Common.{◌≡◌, true, false, eqb, [], ◌∷◌, ◌++◌, map, length, vec_items, vec_len, sym, ap, ◌∙◌, append-nil}
-use Rattle.console_text.specs.Pieces.{ended, unless_empty}
+use Rattle.std.proofs.Common.{◌≡◌, eqb, ◌++◌, map, length, vec_items, vec_len, sym, ap, ◌∙◌, append-nil}
+use Rattle.console_text.specs.Pieces.{unless_empty}
 use Rattle.console_text.proofs.Cutting.{piece_push, last_line, no_last_line}
 use Rattle.console_text.proofs.pieces.lines.Goals as goal
 use Rattle.console_text.proofs.pieces.lines.Goals.{then-not-is_empty+in_ok-push, else-not-is_empty}

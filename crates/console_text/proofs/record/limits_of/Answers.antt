@@ -1,4 +1,4 @@
-use Rattle.std.proofs.Common.{◌+◌, pos, vec_items, ap, ◌∙◌, w32, rules}
+use Rattle.std.proofs.Common.{◌+◌, pos, vec_items, ◌∙◌, w32, rules}
 use Rattle.std.proofs.lemmas.Int.{to_z-of_z}
 use Rattle.wiring.specs.Graphs.{graph_of}
 use Rattle.materials.specs.Layout.{meaning}

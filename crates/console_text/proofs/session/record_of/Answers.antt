@@ -1,4 +1,4 @@
-use Rattle.std.proofs.Common.{◌≡◌, ◌-◌, ◌<◌, vec_items, sym, ◌∙◌, subst}
+use Rattle.std.proofs.Common.{◌-◌, ◌<◌, vec_items, sym, subst}
 use Rattle.console_text.proofs.Finding.{from_one, in_parts, in_records, the_material}
 use Rattle.console_text.proofs.session.record_of.Goals as goal
 

@@ -1,4 +1,4 @@
-use Rattle.std.proofs.Common.{◌≡◌, map, length, vec_items, string_bytes, sym, ap, ◌∙◌}
+use Rattle.std.proofs.Common.{map, vec_items, string_bytes, ap, ◌∙◌}
 use Rattle.wiring.specs.Graphs.{graph_of}
 use Rattle.materials.specs.Layout.{meaning}
 use Rattle.console_text.proofs.Wholes.{entries_enough, session_whole}
