@@ -2,7 +2,7 @@
 ghost use Rattle.std.specs.Prelude.{◌≡◌};
 ghost use Rattle.materials.specs.declared.refusal.Refusal.TheVariants.{OutOfMemory};
 ghost use Rattle.materials.specs.Refusals.{fault_number, record_number};
-ghost use Rattle.materials.specs.Refusals.{number as number_of_lem};
+ghost use Rattle.materials.specs.Refusals.{number as refusal_number};
 
 use std::alloc::{AllocError, AllocFailed};
 
@@ -88,7 +88,7 @@ pub enum Refusal {
 impl Refusal {
     /// The number that the refusal is told by; want of memory has none.
     pub fn number(self) -> Option<u8>
-        ensures { result ≡ number_of_lem self }
+        ensures { result ≡ refusal_number self }
     {
         match self {
             Refusal::FileSize => Some(1),
