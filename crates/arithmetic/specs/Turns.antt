@@ -1,7 +1,7 @@
 -- Whole turns of n: the number from 0 to n - 1, and the number from -h to h - 1 where n is twice h.
 use Rattle.std.specs.Prelude.{◌≡◌, ℕ, suc, ◌+◌, ◌-◌, ◌*◌, ◌/◌, ◌%◌, ◌^◌, ◌<◌, ◌≤◌, ℤ, pos, negsuc, ◌+ℤ◌, ◌-ℤ◌, ◌*ℤ◌, neg_ℤ, ◌≤ℤ◌, ◌<ℤ◌, FitsSigned}
 use Rattle.std.proofs.Math.Path.{refl, sym, ap}
-use Rattle.std.proofs.Common.{◌∙◌, subst, mod-lt, arith, to_z, of_z}
+use Rattle.std.proofs.Common.{◌∙◌, mod-lt, arith, to_z, of_z}
 use Rattle.std.proofs.Math.Nat.{div-add-mod}
 use borrow.Author.Differences.{ints, up, down, same_in, sum_is_lem, product_is}
 use Rattle.std.proofs.Math.IntN.{+ℤ_idl, zero-*ℤ, *ℤ_comm}
@@ -10,7 +10,6 @@ use mir.Syntax.{w64}
 use Rattle.std.specs.Int.{int_rem_euclid, int_wrap as left_at}
 use Rattle.std.proofs.lemmas.Nat.{pow_pos, pow-add, pow_below, mul-le}
 use Rattle.std.proofs.lemmas.Int.{int_wrap_fits, int_wrap-add_left, int_wrap-mul_left, wrapping_mul_is}
-use Rattle.arithmetic.specs.declared.overflow.Stored.TheVariants.{Word}
 use Rattle.arithmetic.specs.Words.{half, Inside}
 use Rattle.arithmetic.specs.Overflow.{wrapped}
 use Rattle.arithmetic.specs.Divisions.{twice_half, floor_rest, floor_unique}
@@ -132,7 +131,3 @@ pub shifted : (w s : ℕ) (raw : ℤ) → 8 ≤ w → w ≤ 28 → s ≡ 64 - w 
 shifted w s raw some few e f =
     let g : FitsSigned w64 (pos (2 ^ s)) = omega (arith, ints, pow_below s 63 (omega arith)) in
     ap (λ x. shr_z x (2 ^ s)) (shifted_up w s raw (omega arith) (omega arith) f g) ∙ shifted_down (2 ^ s) (wrapped w raw) (pow_pos s)
-
--- what holds of the word in an answer holds of each word that the answer is
-pub word_out : (P : ℤ → Type 0) (a b : ℤ) → Word a ≡ Word b → P a → P b
-word_out P a b e p = subst P (cc) p

@@ -5,7 +5,7 @@ ghost use Rattle.arithmetic.specs.RuleLaws.{floor_lawful, nearest_lawful, toward
 ghost use Rattle.arithmetic.specs.declared.choice.OverflowChoice.TheVariants.{Wrap, Saturate, Stop};
 
 use crate::format::{Format, Width};
-use crate::overflow::{Overflow, Saturate, Stop, Stored, Wrap};
+use crate::overflow::{Overflow, Saturate, Stop, Wrap};
 use crate::rounding::{Floor, Nearest, Rounding, TowardZero};
 
 // One of the three rounding rules.
@@ -63,7 +63,7 @@ impl Overflow for OverflowChoice {
 
     ghost lawful = { elim [ Wrap ↦ wrap_lawful | Saturate ↦ saturate_lawful | Stop ↦ stop_lawful ] };
 
-    fn store(&self, raw: i64, width: Width) -> Stored {
+    fn store(&self, raw: i64, width: Width) -> Option<i32> {
         match *self {
             OverflowChoice::Wrap => Wrap.store(raw, width),
             OverflowChoice::Saturate => Saturate.store(raw, width),

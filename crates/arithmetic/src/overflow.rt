@@ -4,20 +4,13 @@ ghost use Rattle.arithmetic.specs.RuleLaws.{wrap_lawful, saturate_lawful, stop_l
 
 use crate::format::Width;
 
-// What an overflow rule answers: a word, or that the run stops here.
-#[derive(Clone, Copy, PartialEq, Eq, Debug)]
-pub enum Stored {
-    Word(i32),
-    Stopped,
-}
-
 // What becomes of a raw number that no word holds.
 pub trait Overflow: Copy {
     // The rule's function.
     ghost rule: { Self → OverflowRule };
 
-    // What is stored for the raw number at a width.
-    fn store(&self, raw: i64, width: Width) -> Stored
+    // The word that is stored for the raw number at a width; none where the run stops.
+    fn store(&self, raw: i64, width: Width) -> Option<i32>
         ensures { result ≡ (rule self.now).store width.bits raw };
 
     // It keeps the laws of an overflow rule.
@@ -33,8 +26,8 @@ impl Overflow for Wrap {
 
     ghost lawful = { λ o. wrap_lawful };
 
-    fn store(&self, raw: i64, width: Width) -> Stored {
-        Stored::Word(turned(raw, width))
+    fn store(&self, raw: i64, width: Width) -> Option<i32> {
+        Some(turned(raw, width))
     }
 }
 
@@ -55,9 +48,9 @@ impl Overflow for Saturate {
 
     ghost lawful = { λ o. saturate_lawful };
 
-    fn store(&self, raw: i64, width: Width) -> Stored {
+    fn store(&self, raw: i64, width: Width) -> Option<i32> {
         let half = width.half();
-        Stored::Word(raw.clamp(-half, half - 1) as i32)
+        Some(raw.clamp(-half, half - 1) as i32)
     }
 }
 
@@ -70,12 +63,12 @@ impl Overflow for Stop {
 
     ghost lawful = { λ o. stop_lawful };
 
-    fn store(&self, raw: i64, width: Width) -> Stored {
+    fn store(&self, raw: i64, width: Width) -> Option<i32> {
         let half = width.half();
         if -half <= raw && raw < half {
-            Stored::Word(raw as i32)
+            Some(raw as i32)
         } else {
-            Stored::Stopped
+            None
         }
     }
 }

@@ -1,7 +1,5 @@
 -- An arithmetic: the operations by which a wiring is worked. The fixed run and the exact run are two of them.
-use Rattle.std.specs.Prelude.{ℕ, ℤ, pos, ◌+ℤ◌, ◌-ℤ◌, ◌*ℤ◌, Ok, Err, Result}
-use Rattle.arithmetic.specs.declared.overflow.Stored.{Stored}
-use Rattle.arithmetic.specs.declared.overflow.Stored.TheVariants.{Word, Stopped}
+use Rattle.std.specs.Prelude.{ℕ, ℤ, pos, ◌+ℤ◌, ◌-ℤ◌, ◌*ℤ◌, Some, None, Option, Ok, Err, Result}
 use Rattle.arithmetic.specs.Settings.{FixedArithmetic, fraction, inner_bits}
 use Rattle.exact.specs.Numbers.{Exact, whole, ◌⊞◌, ◌⊟◌, scale}
 use Rattle.kinds.specs.declared.refusal.Refusal.{Refusal}
@@ -22,9 +20,9 @@ number End = 19
 number Peak = 21
 number Ceiling = 22
 
-abbrev pub or_refused : Stored → Result ℤ Refusal
-or_refused (Word z) = Ok z
-or_refused Stopped = Err Overflow
+abbrev pub or_refused : Option ℤ → Result ℤ Refusal
+or_refused (Some z) = Ok z
+or_refused None = Err Overflow
 
 -- the word that the overflow rule stores for a raw number, refused where the rule stops
 abbrev pub stored : FixedArithmetic → ℤ → Result ℤ Refusal

@@ -5,6 +5,7 @@ use Rattle.arithmetic.specs.Rounding.{RoundingRule}
 use Rattle.arithmetic.specs.Overflow.{OverflowRule}
 use Rattle.arithmetic.specs.Settings.{FixedArithmetic, WordOf, meaning}
 use Rattle.exact.specs.Numbers.{Exact, whole}
+use Rattle.kinds.specs.declared.values.Values.{Values}
 use Rattle.kinds.specs.Arithmetics.{Arithmetic, fixed, exact}
 
 -- a kind under a setting: its arithmetic, and which pairs (fixed word, exact number) a value covers
@@ -45,3 +46,11 @@ pub record LawfulKind {V : Type 0} (s : FixedArithmetic) (m : KindModel V) : Typ
 -- a kind's arithmetic under a setting of the code
 abbrev pub arithmetic : {K V R O : Type 0} → (K → FixedArithmetic → KindModel V) → (R → RoundingRule) → (O → OverflowRule) → K → FixedPoint R O → Arithmetic V
 arithmetic m r o k s = (m k (meaning r o s)).ops
+
+-- the arithmetic of a kind of value under its setting
+abbrev pub arithmetic_of : {K V R O : Type 0} → (K → FixedArithmetic → KindModel V) → (R → RoundingRule) → (O → OverflowRule) → Values K R O → Arithmetic V
+arithmetic_of m r o v = arithmetic m r o v.kind v.setting
+
+-- the arithmetic of the words of its setting
+abbrev pub words_of : {K R O : Type 0} → (R → RoundingRule) → (O → OverflowRule) → Values K R O → FixedArithmetic
+words_of r o v = meaning r o v.setting

@@ -1,12 +1,10 @@
 -- Values by their parts: when values are equal, and which are taken.
-use Rattle.std.specs.Prelude.{◌≡◌, ℕ, ◌^◌, ◌<◌, ◌≤◌, min, Bool, true, false, cond, ◌&&◌, ℤ, Ok, Err, nat_le, unsigned_abs, refl}
+use Rattle.std.specs.Prelude.{◌≡◌, ℕ, ◌^◌, ◌<◌, ◌≤◌, min, Bool, true, false, cond, ◌&&◌, ℤ, Some, None, Option, Ok, Err, nat_le, unsigned_abs, refl}
 use Rattle.std.proofs.Common.{sym, ap, ◌∙◌, arith}
 use mathlib.Core.HLevel.{is_prop→PathP}
 use Rattle.std.proofs.Math.Bridge.{le_prop}
 use Rattle.std.proofs.lemmas.Bool.{lt-leb}
 use Rattle.std.proofs.lemmas.Int.{clamps, ints}
-use Rattle.arithmetic.specs.declared.overflow.Stored.{Stored}
-use Rattle.arithmetic.specs.declared.overflow.Stored.TheVariants.{Word, Stopped}
 use Rattle.arithmetic.specs.Settings.{FixedArithmetic}
 use Rattle.kinds.specs.declared.refusal.Refusal.TheVariants.{Peak, Ceiling, End}
 use Rattle.kinds.specs.declared.values.Bound.{Bound}
@@ -17,9 +15,9 @@ use Rattle.kinds.specs.Enclosures.{clip, enclosed_of, ended}
 use Rattle.kinds.specs.Facts.{and_yes, and_out, leb_yes, leb_out, only}
 
 -- what is taken for a stored word is that word
-pub stored_is : (o : Stored) (z : ℤ) → or_refused o ≡ Ok z → o ≡ Word z
-stored_is (Word y) z e = ap Word (only y z e)
-stored_is Stopped z e = absurd (let z : ◌≡◌ {A = ℕ} 0 1 = cc in omega arith)
+pub stored_is : (o : Option ℤ) (z : ℤ) → or_refused o ≡ Ok z → o ≡ Some z
+stored_is (Some y) z e = ap Some (only y z e)
+stored_is None z e = absurd (let z : ◌≡◌ {A = ℕ} 0 1 = cc in omega arith)
 
 -- ---- bounds
 -- bounds with equal parts are equal

@@ -7,7 +7,7 @@ ghost use Rattle.kinds.specs.EnclosedLaws.{enclosed_lawful};
 
 use crate::kind::Kind;
 use crate::refusal::Refusal;
-use crate::values::Enclosed;
+use crate::values::{Enclosed, Ends};
 use crate::words::{product, store};
 use arithmetic::format::{Coefficient, Format};
 use arithmetic::overflow::Overflow;
@@ -27,26 +27,33 @@ fn times(c: Coefficient, end: i64) -> i64
     c.value as i64 * end
 }
 
+// The products of a coefficient and the ends of a value.
+fn products(c: Coefficient, v: Enclosed) -> Ends
+    ensures low { result.low ≡ c.value *ℤ v.low }
+    ensures high { result.high ≡ c.value *ℤ v.high }
+{
+    Ends {
+        low: times(c, v.low),
+        high: times(c, v.high),
+    }
+}
+
 // The smaller of two products plus what the remainder is worth, over 2^l, down.
-fn low_end(a: i64, b: i64, r: i64, format: &Format) -> i64
-    requires first { unsigned_abs a ≤ 2 ^ 61 }
-    requires second { unsigned_abs b ≤ 2 ^ 61 }
-    requires rest { unsigned_abs r ≤ 2 ^ 23 }
-    ensures value { result ≡ down_by (int_min a b +ℤ pos 4096 *ℤ r) format.now.fraction }
+fn low_end(products: Ends, r: i64, format: &Format) -> i64
+    requires { unsigned_abs r ≤ 2 ^ 23 }
+    ensures value { result ≡ down_by (int_min products.low products.high +ℤ pos 4096 *ℤ r) format.now.fraction }
     ensures bound { unsigned_abs result ≤ 2 ^ 61 }
 {
-    (a.min(b) + 4096 * r) >> format.fraction()
+    (products.low.min(products.high) + 4096 * r) >> format.fraction()
 }
 
 // The larger of two products plus what the remainder is worth, over 2^l, up.
-fn high_end(a: i64, b: i64, r: i64, format: &Format) -> i64
-    requires first { unsigned_abs a ≤ 2 ^ 61 }
-    requires second { unsigned_abs b ≤ 2 ^ 61 }
-    requires rest { unsigned_abs r ≤ 2 ^ 23 }
-    ensures value { result ≡ up_by (int_max a b +ℤ pos 4096 *ℤ r) format.now.fraction }
+fn high_end(products: Ends, r: i64, format: &Format) -> i64
+    requires { unsigned_abs r ≤ 2 ^ 23 }
+    ensures value { result ≡ up_by (int_max products.low products.high +ℤ pos 4096 *ℤ r) format.now.fraction }
     ensures bound { unsigned_abs result ≤ 2 ^ 61 }
 {
-    -(-(a.max(b) + 4096 * r) >> format.fraction())
+    -(-(products.low.max(products.high) + 4096 * r) >> format.fraction())
 }
 
 // The value with these ends, unless one lies too far out.
@@ -69,34 +76,29 @@ fn lost(raw: i64, word: i32) -> i64
 }
 
 // The value with its ends moved by what storing the word for raw takes away. Beyond 2^50 the move alone takes an end too far out.
-fn with_ends_moved(raw: i64, word: i32, low: i64, high: i64) -> Result<Enclosed, Refusal>
-    requires first { unsigned_abs low ≤ 2 ^ 61 }
-    requires second { unsigned_abs high ≤ 2 ^ 61 }
-    ensures { result ≡ ended word (low +ℤ moved raw word) (high +ℤ moved raw word) }
+fn with_ends_moved(raw: i64, word: i32, ends: Ends) -> Result<Enclosed, Refusal>
+    ensures { result ≡ ended word (ends.low +ℤ moved raw word) (ends.high +ℤ moved raw word) }
 {
     if raw.unsigned_abs() > 1125899906842624 {
         return Err(Refusal::End);
     }
     let by = lost(raw, word);
-    with_ends(word, low + by, high + by)
+    with_ends(word, ends.low + by, ends.high + by)
 }
 
 // What the overflow rule stores for raw, with the ends moved by as much.
 fn keep<R: Rounding, O: Overflow>(
     setting: &FixedPoint<R, O>,
     raw: i64,
-    low: i64,
-    high: i64,
+    ends: Ends,
 ) -> Result<Enclosed, Refusal>
-    requires first { unsigned_abs low ≤ 2 ^ 61 }
-    requires second { unsigned_abs high ≤ 2 ^ 61 }
-    ensures { result ≡ kept (meaning R.Rounding.rule O.Overflow.rule setting.now) raw low high }
+    ensures { result ≡ kept (meaning R.Rounding.rule O.Overflow.rule setting.now) raw ends.low ends.high }
 {
     let word = store(setting, raw)?;
     if raw == word as i64 {
-        with_ends(word, low, high)
+        with_ends(word, ends.low, ends.high)
     } else {
-        with_ends_moved(raw, word, low, high)
+        with_ends_moved(raw, word, ends)
     }
 }
 
@@ -134,14 +136,10 @@ impl Kind for EnclosedKind {
         v: Enclosed,
     ) -> Result<Enclosed, Refusal> {
         let (q, r) = setting.rounding.divide(product(c, v.word), &setting.format);
-        let a = times(c, v.low);
-        let b = times(c, v.high);
-        keep(
-            setting,
-            q,
-            low_end(a, b, r, &setting.format),
-            high_end(a, b, r, &setting.format),
-        )
+        let products = products(c, v);
+        let low = low_end(products, r, &setting.format);
+        let high = high_end(products, r, &setting.format);
+        keep(setting, q, Ends { low, high })
     }
 
     fn sum<R: Rounding, O: Overflow>(
@@ -150,12 +148,11 @@ impl Kind for EnclosedKind {
         v: Enclosed,
         w: Enclosed,
     ) -> Result<Enclosed, Refusal> {
-        keep(
-            setting,
-            v.word as i64 + w.word as i64,
-            v.low + w.low,
-            v.high + w.high,
-        )
+        let ends = Ends {
+            low: v.low + w.low,
+            high: v.high + w.high,
+        };
+        keep(setting, v.word as i64 + w.word as i64, ends)
     }
 
     fn difference<R: Rounding, O: Overflow>(
@@ -164,11 +161,10 @@ impl Kind for EnclosedKind {
         v: Enclosed,
         w: Enclosed,
     ) -> Result<Enclosed, Refusal> {
-        keep(
-            setting,
-            v.word as i64 - w.word as i64,
-            v.low - w.high,
-            v.high - w.low,
-        )
+        let ends = Ends {
+            low: v.low - w.high,
+            high: v.high - w.low,
+        };
+        keep(setting, v.word as i64 - w.word as i64, ends)
     }
 }

@@ -8,7 +8,7 @@ use crate::kind::Kind;
 use crate::refusal::Refusal;
 use crate::values::Word;
 use arithmetic::format::Coefficient;
-use arithmetic::overflow::{Overflow, Stored};
+use arithmetic::overflow::Overflow;
 use arithmetic::rounding::Rounding;
 use arithmetic::setting::FixedPoint;
 
@@ -28,10 +28,10 @@ pub fn product(c: Coefficient, word: i32) -> i64
 pub fn store<R: Rounding, O: Overflow>(setting: &FixedPoint<R, O>, raw: i64) -> Result<i32, Refusal>
     ensures { result ≡ stored (meaning R.Rounding.rule O.Overflow.rule setting.now) raw }
 {
-    match setting.overflow.store(raw, setting.format.width()) {
-        Stored::Word(word) => Ok(word),
-        Stored::Stopped => Err(Refusal::Overflow),
-    }
+    setting
+        .overflow
+        .store(raw, setting.format.width())
+        .ok_or(Refusal::Overflow)
 }
 
 // The same as a value.

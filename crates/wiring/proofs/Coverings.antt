@@ -1,24 +1,19 @@
 -- The first use of the simulation: a kind of value against the fixed and the exact run.
 use Rattle.std.proofs.Common.{◌≡◌, ℕ, ◌-◌, ℤ, pos, Ok, Result, refl, subst, arith, pow_pos}
 use borrow.Author.Differences.{ints}
-use Rattle.arithmetic.specs.declared.overflow.Stored.{Stored}
-use Rattle.arithmetic.specs.declared.overflow.Stored.TheVariants.{Word, Stopped}
 use Rattle.arithmetic.specs.Words.{Inside}
 use Rattle.arithmetic.specs.Settings.{FixedArithmetic, Lawful, WordOf, bits, inner_bits}
 use Rattle.exact.specs.Numbers.{Exact, whole}
 use Rattle.kinds.specs.declared.refusal.Refusal.{Refusal}
-use Rattle.kinds.specs.Arithmetics.{or_refused, stored, fixed, exact}
+use Rattle.kinds.specs.Arithmetics.{stored, fixed, exact}
 use Rattle.kinds.specs.Kinds.{KindModel, LawfulKind, Goes}
+use Rattle.kinds.specs.Parts.{stored_is}
 use Rattle.wiring.specs.Covering.{CoversWord, RunCovers}
 use Rattle.wiring.proofs.Places.{each₂_with}
 use Rattle.wiring.proofs.Simulation.{Simulates, simulation}
 
 pub zero_inside : (w : ℕ) → Inside w (pos 0)
 zero_inside w = let p = pow_pos (w - 1) in record { low = omega (arith, ints); high = omega (arith, ints) }
-
-word_out : (t : Stored) (z : ℤ) → or_refused t ≡ Ok z → t ≡ Word z
-word_out (Word y) z e = cc
-word_out Stopped z e = absurd (let z : ◌≡◌ {A = ℕ} 0 1 = cc in omega arith)
 
 -- a coefficient that is a word, and its equal
 abbrev pub WordPair : FixedArithmetic → ℤ → ℤ → Type 0
@@ -32,7 +27,7 @@ module _ {V : Type 0} (s : FixedArithmetic) (lawful : Lawful s) (m : KindModel V
     right = g.right;
     left_is = g.left_is;
     right_is = g.right_is;
-    related = (g.related, lawful.overflow.answers_words (inner_bits s) raw g.left s.format.sound.2 (word_out _ _ g.left_is));
+    related = (g.related, lawful.overflow.answers_words (inner_bits s) raw g.left s.format.sound.2 (stored_is _ _ g.left_is));
   }
 
   scale_goes : (c d : ℤ) → WordPair s c d → (v : V) (w : ℤ) (x : Exact) → CoversWord s m v w x → (r : V) → m.ops.scale c v ≡ Ok r

@@ -1,7 +1,7 @@
 -- Rows that a loop fills from the front, and a run with one node more.
 use Rattle.std.proofs.Common.{◌≡◌, ℕ, ◌+◌, ◌-◌, ◌<◌, ◌≤◌, Bool, true, false, leb, List, [], ◌∷◌, ◌++◌, map, length, get_or, take, drop, set, replicate, ℤ, Some, None, Ok, Err, Option, Result, sym, ap, ◌∙◌, arith, ltb-true, leb-true}
 use native.Mathlib.Nat.{sub-zero}
-use Rattle.std.proofs.lemmas.List.{append_assoc, drop_more, set_at, length-replicate, replicate_more, get_or_read, length-map, map_more, length-take-le, take_more_set, drop-set-lt, at_drop_more, at_drop_all, take-append-drop, drop-drop}
+use Rattle.std.proofs.lemmas.List.{append_assoc, drop_more, set_at, length-replicate, replicate_more, get_or_read, length-map, map_more, length-take-le, take_more_set, drop-set-lt, at_drop_more, at_drop_all, append-nil, take-append-drop, drop-drop}
 use Rattle.kinds.specs.declared.refusal.Refusal.{Refusal}
 use Rattle.kinds.specs.Arithmetics.{Arithmetic}
 use Rattle.wiring.specs.declared.graph.Node.{Node}
@@ -26,6 +26,14 @@ pub cleared_more : {X : Type 0} (z : X) (xs ys : List X) (i : ℕ) → i < lengt
     → set ys i z ≡ replicate (i + 1) z ++ drop (i + 1) xs
 cleared_more z xs ys i h e =
     filled_more (replicate i z) xs ys i z (length-replicate i z) h e ∙ ap (λ w. w ++ drop (i + 1) xs) (replicate_more i z)
+
+-- the first n places of a row, all written
+pub cleared_all : {X : Type 0} (z : X) (xs ys : List X) (i n : ℕ) → n ≤ length xs → length (take n xs) ≤ i → i ≤ length (take n xs) → ys ≡ replicate i z ++ drop i (take n xs)
+    → ys ++ drop n xs ≡ replicate n z ++ drop n xs
+cleared_all z xs ys i n h a b e =
+    let all : length (take n xs) ≡ n = length-take-le n xs h in
+    let i_is : i ≡ n = omega arith in
+    ap (λ w. w ++ drop n xs) (e ∙ at_drop_all (λ w. replicate i z ++ w) (take n xs) i a ∙ append-nil (replicate i z) ∙ ap (λ k. replicate k z) i_is)
 
 -- one more source taken
 pub taken_more : {X : Type 0} (d v : X) (ss : List ℕ) (ws xs ys : List X) (i s : ℕ) → i < length ss → i < length xs → s ≡ get_or ss i 0 → s < length ws → v ≡ get_or ws s v

@@ -1,5 +1,5 @@
 -- What the calls of a program answer and leave.
-use Rattle.std.specs.Prelude.{◌≡◌, ℕ, List, length, ℤ, Some, None, Ok, Err, vec_items, Option, Result, nat_le}
+use Rattle.std.specs.Prelude.{◌≡◌, ℕ, List, length, ℤ, Some, None, Ok, Err, vec_items, Option, Result, nat_le, slice_index_or}
 use Rattle.arithmetic.specs.declared.format.Format.{Format}
 use Rattle.wiring.specs.declared.faults.ProgramFault.{ProgramFault}
 use Rattle.wiring.specs.declared.program.Program.{Program}
@@ -8,7 +8,7 @@ use Rattle.wiring.specs.declared.faults.RowFault.TheVariants.{Registers}
 use Rattle.wiring.specs.declared.faults.RunFault.{RunFault}
 use Rattle.wiring.specs.declared.faults.RunFault.TheVariants.{Row}
 use Rattle.wiring.specs.Graphs.{Graph, graph_of}
-use Rattle.wiring.specs.Runs.{attempt, rows_fault}
+use Rattle.wiring.specs.Runs.{attempt, rows_fault, registers_after}
 use Rattle.wiring.specs.Checks.{unless}
 use Rattle.wiring.specs.Programs.{program_fault}
 
@@ -39,3 +39,12 @@ register_row_fault p registers = unless (nat_le (register_count p) registers) (R
 abbrev pub unless_fault : {E X : Type 0} → Option E → X → X → X
 unless_fault None x y = x
 unless_fault (Some e) x y = y
+
+-- once the nodes are worked: the output is the value of its node in the working row, and the registers take their sources from there
+abbrev pub stepped : {V : Type 0} → V → Graph → List V → Result (List V) RunFault → Result V RunFault
+stepped z g working (Ok vs) = Ok (slice_index_or working g.output z)
+stepped z g working (Err e) = Err e
+
+abbrev pub registers_stepped : {V : Type 0} → V → Graph → List V → List V → Result (List V) RunFault → List V
+registers_stepped z g row working (Ok vs) = registers_after z g row working
+registers_stepped z g row working (Err e) = row

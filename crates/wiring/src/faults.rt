@@ -1,5 +1,6 @@
 ghost use Rattle.std.specs.Prelude.{◌≡◌};
 ghost use Rattle.wiring.specs.Checks.{wiring_number};
+ghost use Rattle.wiring.specs.declared.faults.ProgramFault.TheVariants.{Wiring};
 ghost use Rattle.wiring.specs.Programs.{program_number};
 ghost use Rattle.wiring.specs.Runs.{run_number};
 
@@ -32,6 +33,14 @@ pub enum ProgramFault {
     OtherLength,
     // A coefficient that is no word of the format, with its number.
     Coefficient(usize),
+}
+
+impl From<WiringFault> for ProgramFault {
+    ghost from_gives = { λ e r. r ≡ Wiring e };
+
+    fn from(fault: WiringFault) -> ProgramFault {
+        ProgramFault::Wiring(fault)
+    }
 }
 
 // A row that is too short.

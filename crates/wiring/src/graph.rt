@@ -24,3 +24,10 @@ pub struct Wiring {
     // For each register, the node whose value it takes.
     pub sources: Vec<usize>,
 }
+
+// A wiring with its coefficients, as a user hands them in, unchecked.
+#[derive(Drop)]
+pub struct Filter {
+    pub wiring: Wiring,
+    pub coefficients: Vec<i32>,
+}

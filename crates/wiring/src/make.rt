@@ -7,25 +7,21 @@ ghost use Rattle.wiring.specs.Made.{ProgramAnswer, unless_fault};
 
 use crate::check::check_list;
 use crate::faults::ProgramFault;
-use crate::graph::{Node, Wiring};
+use crate::graph::{Filter, Node};
 use crate::program::Program;
 use arithmetic::format::Format;
 
 impl Program {
-    // The wiring with its coefficients, checked: the wiring first, then the list.
-    pub fn new(
-        format: &Format,
-        wiring: Wiring,
-        coefficients: Vec<i32>,
-    ) -> Result<Program, ProgramFault>
-        ensures { ProgramAnswer format.now (graph_of wiring) coefficients.items result }
+    // The filter, checked: the wiring first, then its coefficients.
+    pub fn new(format: &Format, filter: Filter) -> Result<Program, ProgramFault>
+        ensures { ProgramAnswer format.now (graph_of filter.wiring) filter.coefficients.items result }
     {
-        if let Some(fault) = wiring.fault() {
-            return Err(ProgramFault::Wiring(fault));
-        }
-        if let Some(fault) = check_list(format, wiring.coefficients, &coefficients) {
-            return Err(fault);
-        }
+        let Filter {
+            wiring,
+            coefficients,
+        } = filter;
+        wiring.check()?;
+        check_list(format, wiring.coefficients, &coefficients)?;
         Ok(Program {
             wiring,
             coefficients,
@@ -68,9 +64,7 @@ impl Program {
         ensures list { self.new.coefficients.items ≡ unless_fault (list_fault (width format.now) self.old.wiring.coefficients coefficients.now) coefficients.now self.old.coefficients.items }
         ensures wiring { self.new.wiring ≡ self.old.wiring }
     {
-        if let Some(fault) = check_list(format, self.wiring.coefficients, coefficients) {
-            return Err(fault);
-        }
+        check_list(format, self.wiring.coefficients, coefficients)?;
         self.coefficients.copy_from_slice(coefficients);
         Ok(())
     }

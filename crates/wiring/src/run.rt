@@ -1,5 +1,5 @@
 ghost use Rattle.std.specs.Prelude.{◌≡◌, ℕ, ◌^◌, ◌<◌, ◌≤◌, true, [], ◌++◌, length, drop, replicate, pos, None};
-ghost use Rattle.kinds.specs.Kinds.{arithmetic as kind_arithmetic};
+ghost use Rattle.kinds.specs.Kinds.{arithmetic_of};
 ghost use Rattle.wiring.specs.Checks.{node_fault};
 ghost use Rattle.wiring.specs.Runs.{node_value, work, answered, row_after};
 ghost use Rattle.wiring.specs.Running.{Small, Named};
@@ -9,30 +9,28 @@ use crate::graph::Node;
 use arithmetic::format::Coefficient;
 use arithmetic::overflow::Overflow;
 use arithmetic::rounding::Rounding;
-use arithmetic::setting::FixedPoint;
 use kinds::kind::Kind;
 use kinds::refusal::Refusal;
+use kinds::values::Values;
 
 // Zeros in the first n places.
 pub(crate) fn clear<K: Kind, R: Rounding, O: Overflow>(
-    kind: &K,
-    setting: &FixedPoint<R, O>,
+    values: &Values<K, R, O>,
     row: &mut [K::Value],
     n: usize,
 )
     requires { n ≤ length row.old }
-    ensures { row.new ≡ replicate n (kind_arithmetic K.Kind.model R.Rounding.rule O.Overflow.rule kind.now setting.now).zero ++ drop n row.old }
+    ensures { row.new ≡ replicate n (arithmetic_of K.Kind.model R.Rounding.rule O.Overflow.rule values.now).zero ++ drop n row.old }
 {
-    let zero = kind.zero(setting);
-    for i in 0..n {
-        row[i] = zero;
+    let zero = values.kind.zero(&values.setting);
+    for place in row[..n].iter_mut() {
+        *place = zero;
     }
 }
 
 // What one node comes to, from the values of the nodes before it.
 fn value<K: Kind, R: Rounding, O: Overflow>(
-    kind: &K,
-    setting: &FixedPoint<R, O>,
+    values: &Values<K, R, O>,
     node: Node,
     coefficients: &[i32],
     registers: &[K::Value],
@@ -41,8 +39,9 @@ fn value<K: Kind, R: Rounding, O: Overflow>(
 ) -> Result<K::Value, Refusal>
     requires small { Small coefficients.now }
     requires named { node_fault (length registers.now) (length coefficients.now) (length working.now) node ≡ None }
-    ensures { result ≡ node_value (kind_arithmetic K.Kind.model R.Rounding.rule O.Overflow.rule kind.now setting.now) coefficients.now registers.now sample working.now node }
+    ensures { result ≡ node_value (arithmetic_of K.Kind.model R.Rounding.rule O.Overflow.rule values.now) coefficients.now registers.now sample working.now node }
 {
+    let Values { kind, setting } = values;
     match node {
         Node::Input => kind.sample(setting, sample),
         Node::Zero => Ok(kind.zero(setting)),
@@ -60,8 +59,7 @@ fn value<K: Kind, R: Rounding, O: Overflow>(
 
 // Works the nodes in order, each value into the working row at the node's number; where a node refuses, zeros in all node places.
 pub(crate) fn work_nodes<K: Kind, R: Rounding, O: Overflow>(
-    kind: &K,
-    setting: &FixedPoint<R, O>,
+    values: &Values<K, R, O>,
     nodes: &[Node],
     coefficients: &[i32],
     registers: &[K::Value],
@@ -71,13 +69,12 @@ pub(crate) fn work_nodes<K: Kind, R: Rounding, O: Overflow>(
     requires small { Small coefficients.now }
     requires named { Named (length registers.now) (length coefficients.now) nodes.now }
     requires room { length nodes.now ≤ length working.old }
-    ensures answer { result ≡ answered (work (kind_arithmetic K.Kind.model R.Rounding.rule O.Overflow.rule kind.now setting.now) coefficients.now registers.now sample [] nodes.now) }
-    ensures row { working.new ≡ row_after (kind_arithmetic K.Kind.model R.Rounding.rule O.Overflow.rule kind.now setting.now).zero (length nodes.now) working.old (work (kind_arithmetic K.Kind.model R.Rounding.rule O.Overflow.rule kind.now setting.now) coefficients.now registers.now sample [] nodes.now) }
+    ensures answer { result ≡ answered (work (arithmetic_of K.Kind.model R.Rounding.rule O.Overflow.rule values.now) coefficients.now registers.now sample [] nodes.now) }
+    ensures row { working.new ≡ row_after (arithmetic_of K.Kind.model R.Rounding.rule O.Overflow.rule values.now).zero (length nodes.now) working.old (work (arithmetic_of K.Kind.model R.Rounding.rule O.Overflow.rule values.now) coefficients.now registers.now sample [] nodes.now) }
 {
     for (i, node) in nodes.iter().enumerate() {
         match value(
-            kind,
-            setting,
+            values,
             *node,
             coefficients,
             registers,
@@ -86,7 +83,7 @@ pub(crate) fn work_nodes<K: Kind, R: Rounding, O: Overflow>(
         ) {
             Ok(v) => working[i] = v,
             Err(refusal) => {
-                clear(kind, setting, working, nodes.len());
+                clear(values, working, nodes.len());
                 return Err(RunFault::Node(i, refusal));
             }
         }

@@ -9,12 +9,12 @@ use Rattle.kinds.proofs.enclosures.keep.Goals as goal
 pub returns-then-raw-word : goal.returns-then-raw-word
 returns-then-raw-word g c =
     let raw = c.args.raw in
-    let low = c.args.low in
-    let high = c.args.high in
+    let low = c.args.ends.low in
+    let high = c.args.ends.high in
     let z = c.in_ok-word.word in
     let fr : SFits w64 raw = c.ranges.raw in
-    let fl : SFits w64 low = c.ranges.low in
-    let fh : SFits w64 high = c.ranges.high in
+    let fl : SFits w64 low = search rules in
+    let fh : SFits w64 high = search rules in
     let fz : SFits w32 z = search rules in
     let gz = word_fits z fz in
     let e = simp to_z-of_z at c.in_ok-word.ensures in

@@ -1,5 +1,5 @@
 use Rattle.std.proofs.Common.{◌≡◌, ◌++◌, drop, replicate}
 use Rattle.wiring.proofs.run.clear.Given as goal
 
-abbrev pub invariant-loop-i : goal.invariant-loop-i
-invariant-loop-i g l = l.row ≡ replicate l.i l.zero ++ drop l.i l.initial.row
+abbrev pub invariant-loop-place : goal.invariant-loop-place
+invariant-loop-place g l = l.place-items ≡ replicate l.place-index l.zero ++ drop l.place-index l.initial.place-items

@@ -1,7 +1,7 @@
 use Rattle.std.proofs.Common.{◌≡◌, ℕ, [], length, get_or, take, ℤ, Ok, Err, subst, arith, length-set, w32, to_z, of_z}
 use native.Mathlib.Nat.{sub-zero}
 use Rattle.std.proofs.lemmas.Int.{to_z-of_z}
-use Rattle.kinds.specs.Kinds.{arithmetic}
+use Rattle.kinds.specs.Kinds.{arithmetic_of}
 use Rattle.wiring.specs.declared.faults.RunFault.TheVariants.{Node as AtNode}
 use Rattle.wiring.specs.declared.graph.Node.TheVariants.{Input}
 use Rattle.wiring.specs.Runs.{node_value, work, answered, row_after}
@@ -10,13 +10,13 @@ use Rattle.wiring.proofs.run.work_nodes.Goals as goal
 
 pub loop-i-preserved : goal.loop-i-preserved
 loop-i-preserved g c =
-    let o = arithmetic g.K.Kind.model g.R.Rounding.rule g.O.Overflow.rule c.args.kind.now c.args.setting.now in
+    let o = arithmetic_of g.K.Kind.model g.R.Rounding.rule g.O.Overflow.rule c.args.values.now in
     let t = again o c.args.coefficients.now c.args.registers.now (to_z w32 (of_z w32 c.args.sample)) c.args.nodes.now _ c.loop-i.working c.args.working.now c.loop-i.i c.loop-i.invariant.0 c.loop-i.invariant.1 c.in-Ok.v c.loop-i-test.true (omega arith) (subst (λ (j : ℕ). Ok c.in-Ok.v ≡ node_value o c.args.coefficients.now c.args.registers.now (to_z w32 (of_z w32 c.args.sample)) (take j c.loop-i.working) (get_or c.args.nodes.now c.loop-i.i Input)) (sub-zero c.loop-i.i) c.in-Ok.ensures) in
     (t.0, t.1, simp length-set (omega arith))
 
 pub returns : goal.returns
 returns g c =
-    let o = arithmetic g.K.Kind.model g.R.Rounding.rule g.O.Overflow.rule c.args.kind.now c.args.setting.now in
+    let o = arithmetic_of g.K.Kind.model g.R.Rounding.rule g.O.Overflow.rule c.args.values.now in
     let cs = c.args.coefficients.now in
     let rs = c.args.registers.now in
     let ns = c.args.nodes.now in
@@ -29,7 +29,7 @@ returns g c =
 
 pub returns-in-Err : goal.returns-in-Err
 returns-in-Err g c =
-    let o = arithmetic g.K.Kind.model g.R.Rounding.rule g.O.Overflow.rule c.args.kind.now c.args.setting.now in
+    let o = arithmetic_of g.K.Kind.model g.R.Rounding.rule g.O.Overflow.rule c.args.values.now in
     let cs = c.args.coefficients.now in
     let rs = c.args.registers.now in
     let ns = c.args.nodes.now in

@@ -8,29 +8,23 @@ use Rattle.kinds.specs.Enclosures.{kept}
 use Rattle.kinds.proofs.Numbers.{quotient_is, remainder_is, remainder_near}
 use Rattle.kinds.proofs.enclosures.EnclosedKindKind.scale.Goals as goal
 
-pub low_end-requires : goal.low_end-requires
-low_end-requires g c =
+pub low_end-low-requires : goal.low_end-low-requires
+low_end-low-requires g c =
     let s = c.args.setting.now in
     let rule = g.R.Rounding.rule s.rounding in
     let sound = s.format.sound in
     let f : SFits w64 c.product.result = search rules in
-    let k = remainder_near rule s.format.fraction c.product.result c.divide-q.result f c.divide-q.ensures (g.met.R.Rounding.lawful s.rounding) (omega arith) (omega arith) in
     let fr : SFits w64 c.divide-q.result.1 = search rules in
-    let fa : SFits w64 c.times-a.result = search rules in
-    let fb : SFits w64 c.times-b.result = search rules in
-    record { first = simp to_z-of_z c.times-a.ensures.bound; second = simp to_z-of_z c.times-b.ensures.bound; rest = simp to_z-of_z k }
+    simp to_z-of_z (remainder_near rule s.format.fraction c.product.result c.divide-q.result f c.divide-q.ensures (g.met.R.Rounding.lawful s.rounding) (omega arith) (omega arith))
 
-pub high_end-requires : goal.high_end-requires
-high_end-requires g c =
+pub high_end-high-requires : goal.high_end-high-requires
+high_end-high-requires g c =
     let s = c.args.setting.now in
     let rule = g.R.Rounding.rule s.rounding in
     let sound = s.format.sound in
     let f : SFits w64 c.product.result = search rules in
-    let k = remainder_near rule s.format.fraction c.product.result c.divide-q.result f c.divide-q.ensures (g.met.R.Rounding.lawful s.rounding) (omega arith) (omega arith) in
     let fr : SFits w64 c.divide-q.result.1 = search rules in
-    let fa : SFits w64 c.times-a.result = search rules in
-    let fb : SFits w64 c.times-b.result = search rules in
-    record { first = simp to_z-of_z c.times-a.ensures.bound; second = simp to_z-of_z c.times-b.ensures.bound; rest = simp to_z-of_z k }
+    simp to_z-of_z (remainder_near rule s.format.fraction c.product.result c.divide-q.result f c.divide-q.ensures (g.met.R.Rounding.lawful s.rounding) (omega arith) (omega arith))
 
 pub returns : goal.returns
 returns g c =
@@ -43,15 +37,15 @@ returns g c =
     let f : SFits w64 c.product.result = search rules in
     let fq : SFits w64 c.divide-q.result.0 = search rules in
     let fr : SFits w64 c.divide-q.result.1 = search rules in
-    let fa : SFits w64 c.times-a.result = search rules in
-    let fb : SFits w64 c.times-b.result = search rules in
-    let fl : SFits w64 c.low_end.result = search rules in
-    let fh : SFits w64 c.high_end.result = search rules in
+    let fa : SFits w64 c.products-products.result.low = search rules in
+    let fb : SFits w64 c.products-products.result.high = search rules in
+    let fl : SFits w64 c.low_end-low.result = search rules in
+    let fh : SFits w64 c.high_end-high.result = search rules in
     let p = simp to_z-of_z at c.product.ensures.value in
     let q = quotient_is s.rounding l c.product.result c.divide-q.result f c.divide-q.ensures ∙ ap (s.rounding.quotient l) p in
     let r = remainder_is s.rounding l c.product.result c.divide-q.result f c.divide-q.ensures ∙ ap (λ n. remainder l n (s.rounding.quotient l n)) p in
-    let a = simp to_z-of_z at c.times-a.ensures.value in
-    let b = simp to_z-of_z at c.times-b.ensures.value in
-    let low = simp to_z-of_z at c.low_end.ensures.value ∙ (λ i. down_by (int_min (a i) (b i) +ℤ pos 4096 *ℤ r i) l) in
-    let high = simp to_z-of_z at c.high_end.ensures.value ∙ (λ i. up_by (int_max (a i) (b i) +ℤ pos 4096 *ℤ r i) l) in
+    let a = c.products-products.ensures.low in
+    let b = c.products-products.ensures.high in
+    let low = simp to_z-of_z at c.low_end-low.ensures.value ∙ (λ i. down_by (int_min (a i) (b i) +ℤ pos 4096 *ℤ r i) l) in
+    let high = simp to_z-of_z at c.high_end-high.ensures.value ∙ (λ i. up_by (int_max (a i) (b i) +ℤ pos 4096 *ℤ r i) l) in
     simp to_z-of_z at c.keep.ensures ∙ (λ i. kept s (q i) (low i) (high i))

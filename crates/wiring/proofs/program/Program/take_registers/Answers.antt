@@ -5,6 +5,7 @@ use Rattle.wiring.specs.Graphs.{graph_of}
 use Rattle.wiring.specs.Made.{unless_fault}
 use Rattle.wiring.specs.Runs.{or_fault, registers_after}
 use Rattle.wiring.proofs.Rows.{rows_long, taken_more}
+use Rattle.wiring.proofs.Verdicts.{fault_none}
 use Rattle.wiring.proofs.Soundness.{sound_source}
 use Rattle.wiring.proofs.program.Program.take_registers.Goals as goal
 
@@ -17,13 +18,13 @@ placed p items i n e h far =
 pub fetch-requires : goal.fetch-requires
 fetch-requires g c =
     let p = c.args.self.now in
-    let t = rows_long (graph_of p.wiring) (length c.args.registers.now) (length c.args.working.now) (sym c.in_default.ensures) in
+    let t = rows_long (graph_of p.wiring) (length c.args.registers.now) (length c.args.working.now) (fault_none _ _ _ c.in_ok-check_rows.ensures) in
     placed p c.deref-source-items.result.now c.loop-i.i (length c.args.working.now) c.deref-source-items.ensures.value c.loop-i-test.true t.1
 
 pub loop-i-preserved : goal.loop-i-preserved
 loop-i-preserved g c =
     let p = c.args.self.now in
-    let t = rows_long (graph_of p.wiring) (length c.args.registers.now) (length c.args.working.now) (sym c.in_default.ensures) in
+    let t = rows_long (graph_of p.wiring) (length c.args.registers.now) (length c.args.working.now) (fault_none _ _ _ c.in_ok-check_rows.ensures) in
     let h : c.loop-i.i < length (vec_items p.wiring.sources) = subst (λ l. c.loop-i.i < length l) c.deref-source-items.ensures.value c.loop-i-test.true in
     let k : length (vec_items p.wiring.sources) ≤ length c.args.registers.now = t.0 in (
       (λ d. taken_more d c.fetch.result (vec_items p.wiring.sources) c.args.working.now c.args.registers.now c.loop-i.registers
@@ -36,7 +37,7 @@ loop-i-preserved g c =
 pub returns : goal.returns
 returns g c =
     let p = c.args.self.now in
-    let e = c.in_default.ensures in
+    let e = sym (fault_none _ _ _ c.in_ok-check_rows.ensures) in
     let ss = vec_items p.wiring.sources in
     let l : length c.deref-source-items.result.now ≡ length ss = ap length c.deref-source-items.ensures.value in
     let all : length ss ≤ c.loop-i.i = omega arith in
