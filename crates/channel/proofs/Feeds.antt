@@ -14,6 +14,7 @@ use Rattle.wiring.specs.declared.faults.RunFault.TheVariants.{Row, Node as AtNod
 use Rattle.wiring.specs.Graphs.{Graph}
 use Rattle.wiring.specs.Checks.{unless, first}
 use Rattle.wiring.specs.Programs.{sound}
+use Rattle.wiring.specs.Made.{stepped, registers_stepped}
 use Rattle.wiring.specs.Runs.{Worked, work, taken, run, or_fault, attempt, answered, row_after}
 use Rattle.wiring.proofs.Simulation.{only, onward_in}
 use Rattle.wiring.proofs.Soundness.{first_none, unless_none, sound_source, sound_output}
@@ -24,7 +25,7 @@ use Rattle.channel.specs.declared.fault.CallFault.TheVariants.{RegisterRow, Work
 use Rattle.channel.specs.declared.state.State.{State}
 use Rattle.channel.specs.declared.state.Limits.{Limits}
 use Rattle.channel.specs.Channels.{Call, feed, feed_fault, watched, told, telling, Channel, Answer, fed, answer, leaves}
-use Rattle.channel.specs.Running.{limits_in, state_in, graph, nodes_in, values, stepped, registers_stepped, HandsOut, working_left}
+use Rattle.channel.specs.Running.{limits_in, state_in, graph, nodes_in, values, HandsOut, working_left}
 use Rattle.channel.proofs.Holding.{same_parts}
 
 -- a refusal before the nodes leaves the working row
@@ -131,7 +132,7 @@ module _ {V : Type 0} (k : Arithmetic V) (s : FixedArithmetic) (g : Graph) (limi
 -- ---- the same of a running channel, whose sample came through calls as u and is v
 module _ {K R O V : Type 0} (m : K → FixedArithmetic → KindModel V) (r : R → RoundingRule) (o : O → OverflowRule) (b : Running K R O) (rs ws : List V) where
   abbrev pub FeedsOn : ℤ → Result V CallFault → List V → List V → Option State → Type 0
-  FeedsOn x = Feeds (values m r o b) (meaning r o b.setting) (graph b) (limits_in b.watch) (vec_items b.program.coefficients) (state_in b.watch) rs ws x
+  FeedsOn x = Feeds (values m r o b) (meaning r o b.values.setting) (graph b) (limits_in b.watch) (vec_items b.program.coefficients) (state_in b.watch) rs ws x
 
   abbrev z : V
   z = (values m r o b).zero
@@ -140,20 +141,20 @@ module _ {K R O V : Type 0} (m : K → FixedArithmetic → KindModel V) (r : R �
   tried x = attempt (values m r o b) (graph b) (vec_items b.program.coefficients) rs ws x
 
   module _ (u v : ℤ) (same : u ≡ v) where
-    pub early_on : (e : CallFault) → Some e ≡ feed_fault (width b.setting.format) (graph b) (length rs) (length ws) u → FeedsOn v (Err e) rs ws (state_in b.watch)
+    pub early_on : (e : CallFault) → Some e ≡ feed_fault (width b.values.setting.format) (graph b) (length rs) (length ws) u → FeedsOn v (Err e) rs ws (state_in b.watch)
     early_on e q =
         subst (λ x. FeedsOn x (Err e) rs ws (state_in b.watch)) same
-        (early (values m r o b) (meaning r o b.setting) (graph b) (limits_in b.watch) (vec_items b.program.coefficients) (state_in b.watch) rs ws u e q)
+        (early (values m r o b) (meaning r o b.values.setting) (graph b) (limits_in b.watch) (vec_items b.program.coefficients) (state_in b.watch) rs ws u e q)
 
-    module _ (fine : None ≡ feed_fault (width b.setting.format) (graph b) (length rs) (length ws) u) (rs' ws' : List V)
+    module _ (fine : None ≡ feed_fault (width b.values.setting.format) (graph b) (length rs) (length ws) u) (rs' ws' : List V)
         (row : ws' ≡ row_after z (nodes_in b) ws (tried u)) (moved : rs' ≡ registers_stepped z (graph b) rs ws' (tried u)) where
       pub fed_on : (out : V) (q : Option State) → Ok out ≡ stepped z (graph b) ws' (tried u) → q ≡ watched (limits_in b.watch) (feed (length rs) (length ws) u) (state_in b.watch) → FeedsOn v (Ok out) rs' ws' q
       fed_on out q e watch =
           subst (λ x. FeedsOn x (Ok out) rs' ws' q) same
-          (fed_is (values m r o b) (meaning r o b.setting) (graph b) (limits_in b.watch) (vec_items b.program.coefficients) (state_in b.watch) rs ws u fine rs' ws' row moved b.program.sound out q e watch)
+          (fed_is (values m r o b) (meaning r o b.values.setting) (graph b) (limits_in b.watch) (vec_items b.program.coefficients) (state_in b.watch) rs ws u fine rs' ws' row moved b.program.sound out q e watch)
 
       pub stopped_on : (f : RunFault) (e : CallFault) → e ≡ told f → Err f ≡ stepped z (graph b) ws' (tried u) → FeedsOn v (Err e) rs' ws' (state_in b.watch)
       stopped_on f e is q =
           subst (λ x. FeedsOn x (Err e) rs' ws' (state_in b.watch)) same
           (subst (λ x. FeedsOn u (Err x) rs' ws' (state_in b.watch)) (sym is)
-          (stopped_is (values m r o b) (meaning r o b.setting) (graph b) (limits_in b.watch) (vec_items b.program.coefficients) (state_in b.watch) rs ws u fine rs' ws' row moved f q))
+          (stopped_is (values m r o b) (meaning r o b.values.setting) (graph b) (limits_in b.watch) (vec_items b.program.coefficients) (state_in b.watch) rs ws u fine rs' ws' row moved f q))

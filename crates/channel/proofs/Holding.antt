@@ -1,25 +1,15 @@
 -- What a running channel holds after a call, from its parts.
-use Rattle.std.proofs.Common.{◌≡◌, ℕ, List, ◌++◌, length, take, drop, ℤ, Some, None, Ok, Err, vec_items, Option, Result, sym, refl, ap, ◌∙◌, arith}
+use Rattle.std.proofs.Common.{◌≡◌, ℕ, List, ◌++◌, length, take, drop, ℤ, Some, None, vec_items, Option, Result, sym, refl, ap, ◌∙◌}
 use Rattle.arithmetic.specs.Rounding.{RoundingRule}
 use Rattle.arithmetic.specs.Overflow.{OverflowRule}
 use Rattle.arithmetic.specs.Settings.{FixedArithmetic, meaning}
 use Rattle.kinds.specs.Kinds.{KindModel}
-use Rattle.wiring.specs.Runs.{or_fault}
 use Rattle.channel.specs.declared.channel.Channel.{Channel as Running}
 use Rattle.channel.specs.declared.fault.CallFault.{CallFault}
 use Rattle.channel.specs.declared.state.Event.TheVariants.{Hush, Swap}
 use Rattle.channel.specs.declared.state.Watch.{Watch}
 use Rattle.channel.specs.Channels.{Call, swap, hush, watched, Channel, Answer, leaves}
 use Rattle.channel.specs.Running.{limits_in, state_in, state_told, graph, registers_in, holding, values, answered_to, left_by, row_left}
-
--- ---- a verdict tells its fault
-pub fault_none : {A E : Type 0} (x : Option E) (a b : A) → Ok a ≡ or_fault x (Ok b) → x ≡ None
-fault_none None a b e = refl
-fault_none (Some f) a b e = absurd (let z : ◌≡◌ {A = ℕ} 0 1 = cc in omega arith)
-
-pub fault_some : {A E : Type 0} (x : Option E) (b : A) (f : E) → Err f ≡ or_fault x (Ok b) → x ≡ Some f
-fault_some None b f e = absurd (let z : ◌≡◌ {A = ℕ} 0 1 = cc in omega arith)
-fault_some (Some d) b f e = cc
 
 -- ---- the watch
 pub swap_told : (w : Option Watch) (cs : List ℤ) → state_told Swap w ≡ watched (limits_in w) (swap cs) (state_in w)
@@ -37,7 +27,7 @@ same_parts a b p q r i = record { coefficients = p i; registers = q i; watch = r
 module _ {K R O V : Type 0} (m : K → FixedArithmetic → KindModel V) (r : R → RoundingRule) (o : O → OverflowRule) (before after : Running K R O) (row : List V) (call : Call)
     (a : Result (Answer V) CallFault) (is : answered_to m r o before row call ≡ a) where
   abbrev pub left : Result (Answer V) CallFault → Channel V
-  left x = leaves (values m r o before) (meaning r o before.setting) (graph before) (limits_in before.watch) (holding before row) call x
+  left x = leaves (values m r o before) (meaning r o before.values.setting) (graph before) (limits_in before.watch) (holding before row) call x
 
   pub row_is : (after-row : List V) → after-row ≡ (left a).registers ++ drop (registers_in before) row → after-row ≡ row_left m r o before row call
   row_is after-row e = e ∙ ap (λ x. (left x).registers ++ drop (registers_in before) row) (sym is)

@@ -22,6 +22,11 @@ pub unless_some : {F : Type 0} (t : Bool) (f e : F) → unless t f ≡ Some e �
 unless_some true f e q = absurd (let z : ◌≡◌ {A = ℕ} 0 1 = cc in omega arith)
 unless_some false f e q = refl
 
+-- and the fault is the one it makes
+pub unless_is : {F : Type 0} (t : Bool) (f e : F) → unless t f ≡ Some e → e ≡ f
+unless_is true f e q = absurd (let z : ◌≡◌ {A = ℕ} 0 1 = cc in omega arith)
+unless_is false f e q = cc
+
 module _ {K R O V : Type 0} (m : K → FixedArithmetic → KindModel V) (r : R → RoundingRule) (o : O → OverflowRule) (before after : Running K R O) (row row' : List V) (f : RunFault) where
   abbrev n : ℕ
   n = registers_in before

@@ -61,10 +61,10 @@ no_wiring w n cs f e = go (eqb (length cs) n) e
 
 module _ {K R O V : Type 0} (m : K → FixedArithmetic → KindModel V) (r : R → RoundingRule) (o : O → OverflowRule) (before after : Running K R O) (new : List ℤ) where
   abbrev fault : Option ProgramFault
-  fault = list_fault (width before.setting.format) before.program.wiring.coefficients new
+  fault = list_fault (width before.values.setting.format) before.program.wiring.coefficients new
 
   pub swap_says : (x : Option ProgramFault) → fault ≡ x → (row : List V) → answered_to m r o before row (swap new) ≡ or_fault (option_map of_list x) (Ok (swapped new))
-  swap_says x e row = ap (λ (f : Option CallFault). or_fault f (Ok (swapped new))) (list_told (width before.setting.format) before.program.wiring.coefficients new ∙ ap (option_map of_list) e)
+  swap_says x e row = ap (λ (f : Option CallFault). or_fault f (Ok (swapped new))) (list_told (width before.values.setting.format) before.program.wiring.coefficients new ∙ ap (option_map of_list) e)
 
   module _ (wiring : after.program.wiring ≡ before.program.wiring) (list : vec_items after.program.coefficients ≡ unless_fault fault new (vec_items before.program.coefficients)) (row : List V) where
     pub swap_leaves : fault ≡ None → state_in after.watch ≡ state_told Swap before.watch → holding after row ≡ left_by m r o before row (swap new)

@@ -7,6 +7,7 @@ use Rattle.arithmetic.specs.Formats.{format_fault, format_number}
 use Rattle.arithmetic.specs.Rounding.{RoundingRule}
 use Rattle.arithmetic.specs.Overflow.{OverflowRule}
 use Rattle.arithmetic.specs.Settings.{FixedArithmetic, SettingAnswer}
+use Rattle.kinds.specs.declared.values.Values.{Values}
 use Rattle.kinds.specs.Kinds.{KindModel}
 use Rattle.wiring.specs.declared.faults.ProgramFault.TheVariants.{Wiring}
 use Rattle.wiring.specs.declared.program.Program.{Program as Wired}
@@ -47,16 +48,15 @@ pub record Fresh (limits : Option Limits) (w : Option Watch) : Type 0 where
 
 module _ {K R O : Type 0} where
   -- the channel of checked parts
-  pub record Makes (k : K) (s : FixedPoint R O) (p : Wired) (limits : Option Limits) (c : Running K R O) : Type 0 where
-    pub kind : c.kind ≡ k
-    pub setting : c.setting ≡ s
+  pub record Makes (v : Values K R O) (p : Wired) (limits : Option Limits) (c : Running K R O) : Type 0 where
+    pub values_are : c.values ≡ v
     pub program : c.program ≡ p
     pub watch : Fresh limits c.watch
 
   -- a channel that holds just this kind, setting, wiring and coefficients, and a settled watch with these limits, or none
   pub record Opened (k : K) (s : Setting R O) (g : Graph) (cs : List ℤ) (limits : Option Limits) (c : Running K R O) : Type 0 where
-    pub kind : c.kind ≡ k
-    pub setting : SettingAnswer s (Ok c.setting)
+    pub kind : c.values.kind ≡ k
+    pub setting : SettingAnswer s (Ok c.values.setting)
     pub wiring : graph c ≡ g
     pub coefficients : vec_items c.program.coefficients ≡ cs
     pub watch : Fresh limits c.watch

@@ -1,13 +1,11 @@
 -- The running channel: what it holds beside the row that is lent to it, and what its calls answer and leave.
-use Rattle.std.specs.Prelude.{◌≡◌, ℕ, List, ◌++◌, length, take, drop, replicate, Some, None, Ok, Err, vec_items, Option, Result, slice_index_or}
+use Rattle.std.specs.Prelude.{◌≡◌, ℕ, List, ◌++◌, length, take, drop, replicate, Some, None, Ok, Err, vec_items, Option, Result}
 use Rattle.arithmetic.specs.Rounding.{RoundingRule}
 use Rattle.arithmetic.specs.Overflow.{OverflowRule}
-use Rattle.arithmetic.specs.Settings.{FixedArithmetic, meaning}
+use Rattle.arithmetic.specs.Settings.{FixedArithmetic}
 use Rattle.kinds.specs.Arithmetics.{Arithmetic}
-use Rattle.kinds.specs.Kinds.{KindModel, arithmetic}
-use Rattle.wiring.specs.declared.faults.RunFault.{RunFault}
+use Rattle.kinds.specs.Kinds.{KindModel, arithmetic_of, words_of}
 use Rattle.wiring.specs.Graphs.{Graph, graph_of}
-use Rattle.wiring.specs.Runs.{registers_after}
 use Rattle.channel.specs.declared.channel.Channel.{Channel as Running}
 use Rattle.channel.specs.declared.fault.CallFault.{CallFault}
 use Rattle.channel.specs.declared.fault.CallFault.TheVariants.{RegisterRow, WorkingRow, Sample, Node, OtherLength, Coefficient}
@@ -50,36 +48,27 @@ module _ {K R O : Type 0} where
 
   -- the same kind, setting, wiring and limits
   pub record Same (before now : Running K R O) : Type 0 where
-    pub kind : now.kind ≡ before.kind
-    pub setting : now.setting ≡ before.setting
+    pub kind : now.values.kind ≡ before.values.kind
+    pub setting : now.values.setting ≡ before.values.setting
     pub wiring : now.program.wiring ≡ before.program.wiring
     pub limits : limits_in now.watch ≡ limits_in before.watch
 
 module _ {K R O V : Type 0} (m : K → FixedArithmetic → KindModel V) (r : R → RoundingRule) (o : O → OverflowRule) (c : Running K R O) where
   -- the arithmetic of its values
   abbrev pub values : Arithmetic V
-  values = arithmetic m r o c.kind c.setting
+  values = arithmetic_of m r o c.values
 
   -- what a call answers
   abbrev pub answered_to : List V → Call → Result (Answer V) CallFault
-  answered_to row call = answer values (meaning r o c.setting) (graph c) (limits_in c.watch) (holding c row) call
+  answered_to row call = answer values (words_of r o c.values) (graph c) (limits_in c.watch) (holding c row) call
 
   -- what it leaves
   abbrev pub left_by : List V → Call → Channel V
-  left_by row call = leaves values (meaning r o c.setting) (graph c) (limits_in c.watch) (holding c row) call (answered_to row call)
+  left_by row call = leaves values (words_of r o c.values) (graph c) (limits_in c.watch) (holding c row) call (answered_to row call)
 
   -- the register row afterwards: places past the registers stay
   abbrev pub row_left : List V → Call → List V
   row_left row call = (left_by row call).registers ++ drop (registers_in c) row
-
--- once the nodes are worked: the output is the value of its node in the working row, and the registers take their sources from there
-abbrev pub stepped : {V : Type 0} → V → Graph → List V → Result (List V) RunFault → Result V RunFault
-stepped z g working (Ok vs) = Ok (slice_index_or working g.output z)
-stepped z g working (Err e) = Err e
-
-abbrev pub registers_stepped : {V : Type 0} → V → Graph → List V → List V → Result (List V) RunFault → List V
-registers_stepped z g row working (Ok vs) = registers_after z g row working
-registers_stepped z g row working (Err e) = row
 
 -- a feed hands out the output of its answer, or the fault
 abbrev pub HandsOut : {V : Type 0} → Result (Answer V) CallFault → Result V CallFault → Type 0

@@ -1,33 +1,33 @@
-ghost use Rattle.std.specs.Prelude.{◌≡◌, List, length};
+ghost use Rattle.std.specs.Prelude.{◌≡◌, List, length, Ok};
 ghost use Rattle.arithmetic.specs.Formats.{width};
-ghost use Rattle.wiring.specs.Runs.{answered};
+ghost use Rattle.wiring.specs.Runs.{answered, or_fault};
 ghost use Rattle.channel.specs.Channels.{feed_fault, feed, swap, hush};
 ghost use Rattle.channel.specs.Running.{nodes_in, graph, state_in, holding, Same, values, answered_to, left_by, row_left, HandsOut, working_left};
 
 use crate::channel::Channel;
 use crate::fault::CallFault;
 use crate::state::{Event, State};
-use crate::step::{call_fault, step, tell, tell_sample};
+use crate::telling::{tell, tell_sample};
 use arithmetic::overflow::Overflow;
 use arithmetic::rounding::Rounding;
 use kinds::kind::Kind;
 use wiring::faults::ProgramFault;
 
 impl<K: Kind, R: Rounding, O: Overflow> Channel<K, R, O> {
-    // The first refusal of a feed before its nodes are worked: a row too short, or a sample that is no word.
-    fn feed_fault(&self, registers: usize, working: usize, sample: i32) -> Option<CallFault>
-        ensures { result ≡ feed_fault (width self.now.setting.format) (graph self.now) registers working sample }
+    // Whether a feed's nodes may be worked: refused where a row is too short, or the sample is no word.
+    fn check_feed(&self, registers: usize, working: usize, sample: i32) -> Result<(), CallFault>
+        ensures { result ≡ or_fault (feed_fault (width self.now.values.setting.format) (graph self.now) registers working sample) (Ok tt) }
     {
         if registers < self.program.sources().len() {
-            return Some(CallFault::RegisterRow);
+            return Err(CallFault::RegisterRow);
         }
         if working < self.program.nodes().len() {
-            return Some(CallFault::WorkingRow);
+            return Err(CallFault::WorkingRow);
         }
-        if !self.setting.format.holds(sample) {
-            return Some(CallFault::Sample);
+        if !self.values.setting.format.holds(sample) {
+            return Err(CallFault::Sample);
         }
-        None
+        Ok(())
     }
 
     // Works a sample: answers the output, fills the working row, and the registers take their sources together.
@@ -43,23 +43,10 @@ impl<K: Kind, R: Rounding, O: Overflow> Channel<K, R, O> {
         ensures leaves { holding self.new registers.new ≡ left_by K.Kind.model R.Rounding.rule O.Overflow.rule self.old registers.old (feed (length registers.old) (length working.old) sample) }
         ensures same { Same self.old self.new }
     {
-        if let Some(fault) = self.feed_fault(registers.len(), working.len(), sample) {
-            return Err(fault);
-        }
-        match step(
-            &self.program,
-            &self.kind,
-            &self.setting,
-            registers,
-            working,
-            sample,
-        ) {
-            Ok(output) => {
-                tell_sample(&mut self.watch, sample);
-                Ok(output)
-            }
-            Err(fault) => Err(call_fault(fault)),
-        }
+        self.check_feed(registers.len(), working.len(), sample)?;
+        let output = self.program.step(&self.values, registers, working, sample)?;
+        tell_sample(&mut self.watch, sample);
+        Ok(output)
     }
 
     // Puts in another coefficient list and keeps the registers; the watch lapses.
@@ -68,7 +55,7 @@ impl<K: Kind, R: Rounding, O: Overflow> Channel<K, R, O> {
         ensures leaves { (row : List _) → holding self.new row ≡ left_by K.Kind.model R.Rounding.rule O.Overflow.rule self.old row (swap coefficients.now) }
         ensures same { Same self.old self.new }
     {
-        let format = self.setting.format;
+        let format = self.values.setting.format;
         let Err(fault) = self.program.put_coefficients(&format, coefficients) else {
             tell(&mut self.watch, Event::Swap);
             return Ok(());
@@ -87,12 +74,7 @@ impl<K: Kind, R: Rounding, O: Overflow> Channel<K, R, O> {
         ensures leaves { holding self.new registers.new ≡ left_by K.Kind.model R.Rounding.rule O.Overflow.rule self.old registers.old (hush (length registers.old)) }
         ensures same { Same self.old self.new }
     {
-        let Ok(()) = self
-            .program
-            .zero_registers(&self.kind, &self.setting, registers)
-        else {
-            return Err(CallFault::RegisterRow);
-        };
+        self.program.zero_registers(&self.values, registers)?;
         tell(&mut self.watch, Event::Hush);
         Ok(())
     }
@@ -101,9 +83,6 @@ impl<K: Kind, R: Rounding, O: Overflow> Channel<K, R, O> {
     pub fn watch(&self) -> Option<State>
         ensures { result ≡ state_in self.now.watch }
     {
-        match self.watch {
-            Some(watch) => Some(watch.state),
-            None => None,
-        }
+        self.watch.map(|watch| watch.state)
     }
 }

@@ -1,7 +1,8 @@
 ghost use Rattle.std.specs.Prelude.{◌≡◌};
-ghost use Rattle.channel.specs.Channels.{call_number};
+ghost use Rattle.channel.specs.Channels.{call_number, told};
 
 use kinds::refusal::Refusal;
+use wiring::faults::{RowFault, RunFault};
 
 // Why a call of a channel is refused.
 #[derive(Clone, Copy, PartialEq, Eq, Debug)]
@@ -18,6 +19,19 @@ pub enum CallFault {
     OtherLength,
     // A coefficient that is no word of the format, with its number.
     Coefficient(usize),
+}
+
+// A run's refusal, as a call tells it.
+impl From<RunFault> for CallFault {
+    ghost from_gives = { λ e r. r ≡ told e };
+
+    fn from(fault: RunFault) -> CallFault {
+        match fault {
+            RunFault::Node(k, refusal) => CallFault::Node(k, refusal),
+            RunFault::Row(RowFault::Registers) => CallFault::RegisterRow,
+            RunFault::Row(RowFault::Working) => CallFault::WorkingRow,
+        }
+    }
 }
 
 impl CallFault {

@@ -6,6 +6,6 @@ pub mod channel;
 pub mod fault;
 pub mod opening;
 pub mod state;
-mod step;
+mod telling;
 pub mod theorem;
 pub mod watch;

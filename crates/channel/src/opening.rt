@@ -1,6 +1,7 @@
 ghost use Rattle.std.specs.Prelude.{◌≡◌, ◌≤◌, length};
 ghost use Rattle.wiring.specs.Graphs.{graph_of};
 ghost use Rattle.wiring.specs.Made.{register_count};
+ghost use Rattle.channel.specs.declared.opening.OpenFault.TheVariants.{Format as BadFormat, Program as BadProgram};
 ghost use Rattle.channel.specs.Opening.{open_number, Checked, Fresh, Makes, OpenAnswer, opened_row, made_row};
 
 use crate::channel::Channel;
@@ -10,8 +11,9 @@ use arithmetic::overflow::Overflow;
 use arithmetic::rounding::Rounding;
 use arithmetic::setting::{FixedPoint, Setting};
 use kinds::kind::Kind;
+use kinds::values::Values;
 use wiring::faults::ProgramFault;
-use wiring::graph::Wiring;
+use wiring::graph::Filter;
 use wiring::program::Program;
 
 // Why a channel is not opened.
@@ -36,23 +38,32 @@ impl OpenFault {
     }
 }
 
+impl From<FormatFault> for OpenFault {
+    ghost from_gives = { λ e r. r ≡ BadFormat e };
+
+    fn from(fault: FormatFault) -> OpenFault {
+        OpenFault::Format(fault)
+    }
+}
+
+impl From<ProgramFault> for OpenFault {
+    ghost from_gives = { λ e r. r ≡ BadProgram e };
+
+    fn from(fault: ProgramFault) -> OpenFault {
+        OpenFault::Program(fault)
+    }
+}
+
 // The check, which may refuse: the format, the wiring, the coefficients, then the length of the register row.
 fn check<R: Rounding, O: Overflow>(
     setting: &Setting<R, O>,
-    wiring: Wiring,
-    coefficients: Vec<i32>,
+    filter: Filter,
     row: usize,
 ) -> Result<(FixedPoint<R, O>, Program), OpenFault>
-    ensures { Checked setting.now (graph_of wiring) coefficients.items row result }
+    ensures { Checked setting.now (graph_of filter.wiring) filter.coefficients.items row result }
 {
-    let fixed = match setting.check() {
-        Ok(fixed) => fixed,
-        Err(fault) => return Err(OpenFault::Format(fault)),
-    };
-    let program = match Program::new(&fixed.format, wiring, coefficients) {
-        Ok(program) => program,
-        Err(fault) => return Err(OpenFault::Program(fault)),
-    };
+    let fixed = setting.check()?;
+    let program = Program::new(&fixed.format, filter)?;
     if row < program.sources().len() {
         return Err(OpenFault::RegisterRow);
     }
@@ -63,33 +74,28 @@ fn check<R: Rounding, O: Overflow>(
 fn first_watch(limits: Option<Limits>) -> Option<Watch>
     ensures { Fresh limits result }
 {
-    match limits {
-        Some(limits) => Some(Watch {
-            limits,
-            state: State::Settled,
-        }),
-        None => None,
-    }
+    limits.map(|limits| Watch {
+        limits,
+        state: State::Settled,
+    })
 }
 
 // The making, which cannot refuse: zeros in the registers, and a settled watch where there are limits.
 fn make<K: Kind, R: Rounding, O: Overflow>(
-    kind: K,
-    setting: FixedPoint<R, O>,
+    values: Values<K, R, O>,
     program: Program,
     registers: &mut [K::Value],
     limits: Option<Limits>,
 ) -> Channel<K, R, O>
     requires { register_count program ≤ length registers.old }
-    ensures channel { Makes kind setting program limits result }
+    ensures channel { Makes values program limits result }
     ensures registers { registers.new ≡ made_row K.Kind.model R.Rounding.rule O.Overflow.rule result registers.old }
 {
-    let Ok(()) = program.zero_registers(&kind, &setting, registers) else {
+    let Ok(()) = program.zero_registers(&values, registers) else {
         unreachable()
     };
     Channel {
-        kind,
-        setting,
+        values,
         program,
         watch: first_watch(limits),
     }
@@ -100,15 +106,14 @@ impl<K: Kind + Drop, R: Rounding, O: Overflow> Channel<K, R, O> {
     pub fn open(
         kind: K,
         setting: &Setting<R, O>,
-        wiring: Wiring,
-        coefficients: Vec<i32>,
+        filter: Filter,
         registers: &mut [K::Value],
         limits: Option<Limits>,
     ) -> Result<Channel<K, R, O>, OpenFault>
-        ensures answer { OpenAnswer kind setting.now (graph_of wiring) coefficients.items (length registers.old) limits result }
+        ensures answer { OpenAnswer kind setting.now (graph_of filter.wiring) filter.coefficients.items (length registers.old) limits result }
         ensures registers { registers.new ≡ opened_row K.Kind.model R.Rounding.rule O.Overflow.rule registers.old result }
     {
-        let (fixed, program) = check(setting, wiring, coefficients, registers.len())?;
-        Ok(make(kind, fixed, program, registers, limits))
+        let (setting, program) = check(setting, filter, registers.len())?;
+        Ok(make(Values { kind, setting }, program, registers, limits))
     }
 }

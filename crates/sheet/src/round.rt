@@ -10,7 +10,7 @@ use arithmetic::overflow::Overflow;
 use arithmetic::rounding::Rounding;
 use arithmetic::setting::FixedPoint;
 use kinds::bounds::BoundKind;
-use kinds::values::Bound;
+use kinds::values::{Bound, Values};
 use wiring::faults::RunFault;
 use wiring::program::Program;
 
@@ -25,7 +25,11 @@ pub(crate) fn round<R: Rounding, O: Overflow>(
     requires { Room (program_graph program.now) registers.now working.old }
     ensures { RoundAnswer (meaning R.Rounding.rule O.Overflow.rule setting.now) (program_graph program.now) (program_list program.now) sample (box_in (program_graph program.now) registers.now) result working.new }
 {
-    let Err(fault) = program.work(&BoundKind, setting, registers, working, sample) else {
+    let values = Values {
+        kind: BoundKind,
+        setting: *setting,
+    };
+    let Err(fault) = program.work(&values, registers, working, sample) else {
         return Ok(());
     };
     match fault {

@@ -14,7 +14,7 @@ use arithmetic::overflow::Overflow;
 use arithmetic::rounding::Rounding;
 use arithmetic::setting::{FixedPoint, Setting};
 use kinds::values::Bound;
-use wiring::graph::Wiring;
+use wiring::graph::{Filter, Wiring};
 use wiring::limits::{MAX_NODES, MAX_REGISTERS};
 use wiring::program::Program;
 
@@ -102,7 +102,13 @@ pub fn sheet<R: Rounding, O: Overflow>(
         Ok(checked) => checked,
         Err(fault) => return Err(SheetFault::Format(fault)),
     };
-    let program = match Program::new(&checked.format, wiring, coefficients) {
+    let program = match Program::new(
+        &checked.format,
+        Filter {
+            wiring,
+            coefficients,
+        },
+    ) {
         Ok(program) => program,
         Err(fault) => return Err(SheetFault::Program(fault)),
     };
