@@ -2,7 +2,7 @@ ghost use Rattle.std.specs.Prelude.{◌≡◌, List, length, Ok};
 ghost use Rattle.arithmetic.specs.Formats.{width};
 ghost use Rattle.wiring.specs.Runs.{answered, or_fault};
 ghost use Rattle.channel.specs.Channels.{feed_fault, feed, swap, hush};
-ghost use Rattle.channel.specs.Running.{nodes_in, graph, state_in, holding, Same, values, answered_to, left_by, row_left, HandsOut, working_left};
+ghost use Rattle.channel.specs.Running.{registers_in, nodes_in, graph, state_in, holding, Same, values, answered_to, left_by, row_left, HandsOut, working_left};
 
 use crate::channel::Channel;
 use crate::fault::CallFault;
@@ -18,10 +18,10 @@ impl<K: Kind, R: Rounding, O: Overflow> Channel<K, R, O> {
     fn check_feed(&self, registers: usize, working: usize, sample: i32) -> Result<(), CallFault>
         ensures { result ≡ or_fault (feed_fault (width self.now.values.setting.format) (graph self.now) registers working sample) (Ok tt) }
     {
-        if registers < self.program.sources().len() {
+        if registers < self.registers() {
             return Err(CallFault::RegisterRow);
         }
-        if working < self.program.nodes().len() {
+        if working < self.nodes() {
             return Err(CallFault::WorkingRow);
         }
         if !self.values.setting.format.holds(sample) {
@@ -77,6 +77,20 @@ impl<K: Kind, R: Rounding, O: Overflow> Channel<K, R, O> {
         self.program.zero_registers(&self.values, registers)?;
         tell(&mut self.watch, Event::Hush);
         Ok(())
+    }
+
+    // How many registers its wiring has.
+    pub fn registers(&self) -> usize
+        ensures { result ≡ registers_in self.now }
+    {
+        self.program.sources().len()
+    }
+
+    // How many nodes its wiring has.
+    pub fn nodes(&self) -> usize
+        ensures { result ≡ nodes_in self.now }
+    {
+        self.program.nodes().len()
     }
 
     // What the watch says, where there is one.

@@ -42,7 +42,7 @@ impl From<FormatFault> for OpenFault {
     ghost from_gives = { λ e r. r ≡ BadFormat e };
 
     fn from(fault: FormatFault) -> OpenFault {
-        OpenFault::Format(fault)
+        Self::Format(fault)
     }
 }
 
@@ -50,7 +50,7 @@ impl From<ProgramFault> for OpenFault {
     ghost from_gives = { λ e r. r ≡ BadProgram e };
 
     fn from(fault: ProgramFault) -> OpenFault {
-        OpenFault::Program(fault)
+        Self::Program(fault)
     }
 }
 

@@ -105,7 +105,7 @@ module _ {K R O V : Type 0} (m : K → FixedArithmetic → KindModel V) (r : R �
   calls = map (lent (length first_row)) listed
 
   abbrev held : List Call → Channel V
-  held h = after (values m r o first) (meaning r o first.setting) (graph first) (limits_in first.watch) (vec_items first.program.coefficients) h
+  held h = after (values m r o first) (meaning r o first.values.setting) (graph first) (limits_in first.watch) (vec_items first.program.coefficients) h
 
   -- after the first n calls: the channel, the row and the log
   pub record Follows (c : Running K R O) (row : List V) (log : List (Entry V)) (n : ℕ) : Type 0 where
@@ -113,7 +113,7 @@ module _ {K R O V : Type 0} (m : K → FixedArithmetic → KindModel V) (r : R �
     pub long : length row ≡ length first_row
     pub rest : drop (registers_in first) row ≡ drop (registers_in first) first_row
     pub holds : holding c row ≡ held (earlier calls n)
-    pub partly : Partly (values m r o first) (meaning r o first.setting) (graph first) (vec_items first.program.coefficients) (limits_in first.watch) calls log n
+    pub partly : Partly (values m r o first) (meaning r o first.values.setting) (graph first) (vec_items first.program.coefficients) (limits_in first.watch) calls log n
 
   pub follows_none : Started m r o first first_row → (log : List (Entry V)) (e : Entry V) → log ≡ [] ++ e ∷ [] → Shows (holding first first_row) e → e.told ≡ Opened → Follows first first_row log 0
   follows_none st log e q sh op = record {
@@ -127,12 +127,12 @@ module _ {K R O V : Type 0} (m : K → FixedArithmetic → KindModel V) (r : R �
   -- what a call answers and leaves is the same of the first channel's parts
   module _ (c c' : Running K R O) (row row' : List V) (same : Same first c) (ch : Channel V) (holds : holding c row ≡ ch) (call : Call) where
     abbrev says : Result (Answer V) CallFault
-    says = answer (values m r o first) (meaning r o first.setting) (graph first) (limits_in first.watch) ch call
+    says = answer (values m r o first) (meaning r o first.values.setting) (graph first) (limits_in first.watch) ch call
 
     says_is : answered_to m r o c row call ≡ says
     says_is i = answer (arithmetic m r o (same.kind i) (same.setting i)) (meaning r o (same.setting i)) (graph_of (same.wiring i)) (same.limits i) (holds i) call
 
-    leaves_is : left_by m r o c row call ≡ leaves (values m r o first) (meaning r o first.setting) (graph first) (limits_in first.watch) ch call says
+    leaves_is : left_by m r o c row call ≡ leaves (values m r o first) (meaning r o first.values.setting) (graph first) (limits_in first.watch) ch call says
     leaves_is i = leaves (arithmetic m r o (same.kind i) (same.setting i)) (meaning r o (same.setting i)) (graph_of (same.wiring i)) (same.limits i) (holds i) call (says_is i)
 
   same_on : (c c' : Running K R O) → Same first c → Same c c' → Same first c'

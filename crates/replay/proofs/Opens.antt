@@ -70,14 +70,14 @@ module _ {K R O V : Type 0} (m : K → FixedArithmetic → KindModel V) (r : R �
     (row' : ℕ) (same_row : row' ≡ row) (calls : List (Listed V)) (log : List (Entry V)) (logs : Logs m r o c row' calls log) where
   logged : (p : FixedPoint R O) → SettingAnswer st (Ok p) → Logged (m kind (meaning r o p)).ops (meaning r o p) g cs limits (map (lent row) calls) log
   logged p a =
-      let same = same_point st c.setting p opened.setting a in
+      let same = same_point st c.values.setting p opened.setting a in
       subst (λ (y : K × FixedPoint R O × Graph × List ℤ × Option Limits × ℕ). Logged (m y.0 (meaning r o y.1)).ops (meaning r o y.1) y.2 y.3 y.4 (map (lent y.5) calls) log)
       (λ i. (opened.kind i, same i, opened.wiring i, opened.coefficients i, opened.watch.limits_are i, same_row i)) logs
 
   pub replays : Replays m r o kind st g cs limits row calls log
   replays = record {
     opened = passed;
-    checked = (c.setting, opened.setting);
+    checked = (c.values.setting, opened.setting);
     logged = logged;
     theorem = λ p a. log_theorem (meaning r o p) (law p) (m kind (meaning r o p)) (laws kind p) g cs limits (fine st p g cs row passed a) (map (lent row) calls) log (logged p a);
   }

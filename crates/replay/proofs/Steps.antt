@@ -140,7 +140,7 @@ module _ {K R O V : Type 0} (m : K → FixedArithmetic → KindModel V) (r : R �
         → row' ≡ row_left m r o c row call' → holding c' row' ≡ left_by m r o c row call' → Same c c' → length row' ≡ length row
         → ns ≡ take (nodes_in c) places' → heard t ≡ Some (record { output = out; nodes = ns }) → Works m r o c row (feed (length row) w u) c' row' t
     fed_works places' ns out h p d l same len n e =
-        let x = made_by (values m r o c) (meaning r o c.setting) (graph c) (limits_in c.watch) (holding c row) (length row) (length places) u' out h in
+        let x = made_by (values m r o c) (meaning r o c.values.setting) (graph c) (limits_in c.watch) (holding c row) (length row) (length places) u' out h in
         let q : ns ≡ x.worked.values =
         n ∙ ap (take (nodes_in c)) (p ∙ ap (working_left (values m r o c).zero (nodes_in c) places) x.says_is) ∙ take_at x.worked.values (drop (nodes_in c) places) (nodes_in c) x.long in
         moved (record { tells = subst (λ z. Tells z t) (sym x.says_is) (e ∙ (λ i. Some (record { output = x.out_is i; nodes = q i }))); holds = l; same = same; long = len; rest = rest_by m r o c c' row row' call' d l same len })
@@ -148,7 +148,7 @@ module _ {K R O V : Type 0} (m : K → FixedArithmetic → KindModel V) (r : R �
     pub refused_works : (f : CallFault) → t ≡ Refused f → HandsOut (answered_to m r o c row call') (Err f)
         → row' ≡ row_left m r o c row call' → holding c' row' ≡ left_by m r o c row call' → Same c c' → length row' ≡ length row → Works m r o c row (feed (length row) w u) c' row' t
     refused_works f e h d l same len =
-        moved (record { tells = subst (λ z. Tells (answered_to m r o c row call') z) (sym e) (feed_refused (values m r o c) (meaning r o c.setting) (graph c) (limits_in c.watch) (holding c row) (length row) (length places) u' f h); holds = l; same = same; long = len; rest = rest_by m r o c c' row row' call' d l same len })
+        moved (record { tells = subst (λ z. Tells (answered_to m r o c row call') z) (sym e) (feed_refused (values m r o c) (meaning r o c.values.setting) (graph c) (limits_in c.watch) (holding c row) (length row) (length places) u' f h); holds = l; same = same; long = len; rest = rest_by m r o c c' row row' call' d l same len })
 
 -- ---- a call that is lent a part of the row
 module _ {K R O V : Type 0} (m : K → FixedArithmetic → KindModel V) (r : R → RoundingRule) (o : O → OverflowRule) (c c' : Running K R O) (row short' : List V) (n : ℕ) (fits : n ≤ length row) (t : Told V) (call : Call)
@@ -161,7 +161,7 @@ module _ {K R O V : Type 0} (m : K → FixedArithmetic → KindModel V) (r : R �
   left = short' ++ drop n row
 
   abbrev leaving : Channel V → Channel V
-  leaving ch = leaves (values m r o c) (meaning r o c.setting) (graph c) (limits_in c.watch) ch call (answer (values m r o c) (meaning r o c.setting) (graph c) (limits_in c.watch) ch call)
+  leaving ch = leaves (values m r o c) (meaning r o c.values.setting) (graph c) (limits_in c.watch) ch call (answer (values m r o c) (meaning r o c.values.setting) (graph c) (limits_in c.watch) ch call)
 
   short_long : length short' ≡ n
   short_long = works.long ∙ length-take-le n row fits
@@ -177,7 +177,7 @@ module _ {K R O V : Type 0} (m : K → FixedArithmetic → KindModel V) (r : R �
       let a : holding c short ≡ holding c row = same_parts (holding c short) (holding c row) refl (take-take (registers_in c) n row h) refl in
       let b : holding c' left ≡ holding c' short' = let d = short_long in let e = same_registers in same_parts (holding c' left) (holding c' short') refl (take-append-le (registers_in c') short' (drop n row) (omega arith)) refl in
       record {
-        tells = subst (λ x. Tells (answer (values m r o c) (meaning r o c.setting) (graph c) (limits_in c.watch) x call) t) a works.tells;
+        tells = subst (λ x. Tells (answer (values m r o c) (meaning r o c.values.setting) (graph c) (limits_in c.watch) x call) t) a works.tells;
         holds = b ∙ works.holds ∙ ap leaving a;
         same = works.same;
         long = left_long;
@@ -187,7 +187,7 @@ module _ {K R O V : Type 0} (m : K → FixedArithmetic → KindModel V) (r : R �
 
   lacking : n < registers_in c → leb (registers_in c) n ≡ false → Works m r o c row call c' left t
   lacking h q =
-      let a : holding c' short' ≡ holding c short = works.holds ∙ ap (leaves (values m r o c) (meaning r o c.setting) (graph c) (limits_in c.watch) (holding c short) call) (refuses q short) in
+      let a : holding c' short' ≡ holding c short = works.holds ∙ ap (leaves (values m r o c) (meaning r o c.values.setting) (graph c) (limits_in c.watch) (holding c short) call) (refuses q short) in
       let k = short_long in
       let e = same_registers in
       let l = length-take-le n row fits in
@@ -196,7 +196,7 @@ module _ {K R O V : Type 0} (m : K → FixedArithmetic → KindModel V) (r : R �
       record {
         tells = subst (λ x. Tells x t) (refuses q short ∙ sym (refuses q row)) works.tells;
         holds = same_parts (holding c' left) (holding c row) (ap (λ (x : Channel V). x.coefficients) a) ((λ i. take (e i) (d i))) (ap (λ (x : Channel V). x.watch) a)
-            ∙ ap (leaves (values m r o c) (meaning r o c.setting) (graph c) (limits_in c.watch) (holding c row) call) (sym (refuses q row));
+            ∙ ap (leaves (values m r o c) (meaning r o c.values.setting) (graph c) (limits_in c.watch) (holding c row) call) (sym (refuses q row));
         same = works.same;
         long = left_long;
         rest = ap (drop (registers_in c)) d;
@@ -234,7 +234,7 @@ module _ {K R O V : Type 0} (m : K → FixedArithmetic → KindModel V) (r : R �
   lent_feed listed working w u u' e long same-sample v =
       let x : Works m r o c (take n row) (feed n w u) c' short' t = subst (λ (y : List V × Call). Works m r o c y.0 y.1 c' short' t) (λ i. (short_row i, feed (short_length i) w (same-sample i))) v in
       let y = lent_works m r o c c' row short' n fits t (feed n w u)
-      (λ q rs. ap (λ b. or_fault (first (unless b RegisterRow) (first (unless (leb (nodes_in c) w) WorkingRow) (unless (inside (bits (meaning r o c.setting)) u) Sample))) (telling (run (values m r o c) (graph c) (vec_items c.program.coefficients) (take (registers_in c) rs) u) fed)) q) x in
+      (λ q rs. ap (λ b. or_fault (first (unless b RegisterRow) (first (unless (leb (nodes_in c) w) WorkingRow) (unless (inside (bits (meaning r o c.values.setting)) u) Sample))) (telling (run (values m r o c) (graph c) (vec_items c.program.coefficients) (take (registers_in c) rs) u) fed)) q) x in
       subst (λ (z : Call × List V). Works m r o c row z.0 c' z.1 t) (λ i. (((λ j. feed (is j) (long j) u) ∙ ap (lent (length row)) (sym e)) i, whole_row i)) y
 
   -- whatever became of the call, places past the registers stay where they stay in the part that it was lent

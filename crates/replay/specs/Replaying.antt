@@ -31,11 +31,11 @@ pub record Works {K R O V : Type 0} (m : K → FixedArithmetic → KindModel V) 
 
 -- the channel and its row are as open leaves them
 abbrev pub Started : {K R O V : Type 0} → (K → FixedArithmetic → KindModel V) → (R → RoundingRule) → (O → OverflowRule) → Running K R O → List V → Type 0
-Started m r o c row = holding c row ≡ after (values m r o c) (meaning r o c.setting) (graph c) (limits_in c.watch) (vec_items c.program.coefficients) []
+Started m r o c row = holding c row ≡ after (values m r o c) (meaning r o c.values.setting) (graph c) (limits_in c.watch) (vec_items c.program.coefficients) []
 
 -- the log of a list of calls on this channel, with a row of so many places
 abbrev pub Logs : {K R O V : Type 0} → (K → FixedArithmetic → KindModel V) → (R → RoundingRule) → (O → OverflowRule) → Running K R O → ℕ → List (Listed V) → List (Entry V) → Type 0
-Logs m r o c row calls log = Logged (values m r o c) (meaning r o c.setting) (graph c) (vec_items c.program.coefficients) (limits_in c.watch) (map (lent row) calls) log
+Logs m r o c row calls log = Logged (values m r o c) (meaning r o c.values.setting) (graph c) (vec_items c.program.coefficients) (limits_in c.watch) (map (lent row) calls) log
 
 -- a log for every setting whose check passes: each entry is what the channel's steps answer and leave, and keeps a, b and c
 pub record Replays {K R O V : Type 0} (m : K → FixedArithmetic → KindModel V) (r : R → RoundingRule) (o : O → OverflowRule) (kind : K) (st : Setting R O) (g : Graph) (cs : List ℤ) (limits : Option Limits) (row : ℕ) (calls : List (Listed V)) (log : List (Entry V)) : Type 0 where

@@ -1,6 +1,10 @@
+ghost use Rattle.std.specs.Prelude.{◌≡◌};
+ghost use Rattle.replay.specs.declared.log.ReplayFault.TheVariants.{Open, Memory};
+
 use channel::fault::CallFault;
 use channel::opening::OpenFault;
 use channel::state::State;
+use std::alloc::AllocError;
 
 // A call of a list. Feed and hush say how many places of the row that open set they are lent (at most all of them);
 // feed also has its working row, of any length and content, of which it is lent a copy.
@@ -43,4 +47,20 @@ pub enum ReplayFault {
     Open(OpenFault),
     // There is not memory enough for the log.
     Memory,
+}
+
+impl From<OpenFault> for ReplayFault {
+    ghost from_gives = { λ e r. r ≡ Open e };
+
+    fn from(fault: OpenFault) -> ReplayFault {
+        Self::Open(fault)
+    }
+}
+
+impl From<AllocError> for ReplayFault {
+    ghost from_gives = { λ _ r. r ≡ Memory };
+
+    fn from(_e: AllocError) -> ReplayFault {
+        Self::Memory
+    }
 }

@@ -1,6 +1,6 @@
 ghost use Rattle.std.specs.Prelude.{◌≡◌, ◌≤◌, length, drop, IfOk};
 ghost use Rattle.wiring.specs.Graphs.{graph_of};
-ghost use Rattle.channel.specs.Running.{registers_in, nodes_in, holding};
+ghost use Rattle.channel.specs.Running.{registers_in, holding};
 ghost use Rattle.replay.specs.Log.{Shows};
 ghost use Rattle.replay.specs.Replaying.{RowShows, RowLeft, Started, Logs, ReplayAnswer};
 
@@ -13,23 +13,20 @@ use channel::channel::Channel;
 use channel::state::Limits;
 use kinds::kind::Kind;
 use std::alloc::{AllocError, Global};
-use wiring::graph::Wiring;
+use wiring::graph::Filter;
 
 // The entry of what was told: the registers and the watch as they are now.
 fn entry<K: Kind, R: Rounding, O: Overflow>(
     heap: Global,
     channel: &Channel<K, R, O>,
-    registers: usize,
     row: &[K::Value],
     told: Told<K::Value>,
 ) -> Result<Entry<K::Value>, AllocError>
-    requires registers { registers ≡ registers_in channel.now }
-    requires row { registers_in channel.now ≤ length row.now }
+    requires { registers_in channel.now ≤ length row.now }
     ensures { IfOk result (λ e. Shows (holding channel.now row.now) e × (e.told ≡ told)) }
 {
-    let registers = Vec::from_slice(heap, &row[0..registers])?;
     Ok(Entry {
-        registers,
+        registers: Vec::from_slice(heap, &row[..channel.registers()])?,
         watch: channel.watch(),
         told,
     })
@@ -39,13 +36,9 @@ fn entry<K: Kind, R: Rounding, O: Overflow>(
 fn follow<K: Kind, R: Rounding, O: Overflow>(
     heap: Global,
     channel: &mut Channel<K, R, O>,
-    registers: usize,
-    nodes: usize,
     row: &mut [K::Value],
     calls: &[Call<K::Value>],
 ) -> Result<Vec<Entry<K::Value>>, AllocError>
-    requires registers { registers ≡ registers_in channel.old }
-    requires nodes { nodes ≡ nodes_in channel.old }
     requires row { registers_in channel.old ≤ length row.old }
     requires started { Started K.Kind.model R.Rounding.rule O.Overflow.rule channel.old row.old }
     ensures row { IfOk result (λ log. RowShows (registers_in channel.old) (length calls.now) log.items row.old row.new) }
@@ -53,11 +46,11 @@ fn follow<K: Kind, R: Rounding, O: Overflow>(
     ensures rest { drop (registers_in channel.old) row.new ≡ drop (registers_in channel.old) row.old }
 {
     let mut log = Vec::new(heap);
-    let opened = entry(heap, channel, registers, row, Told::Opened)?;
+    let opened = entry(heap, channel, row, Told::Opened)?;
     log.push(opened)?;
     for call in calls {
-        let told = work(heap, channel, nodes, row, call)?;
-        let item = entry(heap, channel, registers, row, told)?;
+        let told = work(heap, channel, row, call)?;
+        let item = entry(heap, channel, row, told)?;
         log.push(item)?;
     }
     Ok(log)
@@ -68,23 +61,14 @@ pub fn replay<K: Kind + Drop, R: Rounding, O: Overflow>(
     heap: Global,
     kind: K,
     setting: &Setting<R, O>,
-    wiring: Wiring,
-    coefficients: Vec<i32>,
+    filter: Filter,
     limits: Option<Limits>,
     row: &mut [K::Value],
     calls: &[Call<K::Value>],
 ) -> Result<Vec<Entry<K::Value>>, ReplayFault>
-    ensures row { RowLeft (length (graph_of wiring).sources) (length calls.now) row.old row.new result }
-    ensures log { ReplayAnswer K.Kind.model R.Rounding.rule O.Overflow.rule kind setting.now (graph_of wiring) coefficients.items limits (length row.old) calls.now result }
+    ensures row { RowLeft (length (graph_of filter.wiring).sources) (length calls.now) row.old row.new result }
+    ensures log { ReplayAnswer K.Kind.model R.Rounding.rule O.Overflow.rule kind setting.now (graph_of filter.wiring) filter.coefficients.items limits (length row.old) calls.now result }
 {
-    let registers = wiring.sources.len();
-    let nodes = wiring.nodes.len();
-    let mut channel = match Channel::open(kind, setting, wiring, coefficients, row, limits) {
-        Ok(channel) => channel,
-        Err(fault) => return Err(ReplayFault::Open(fault)),
-    };
-    match follow(heap, &mut channel, registers, nodes, row, calls) {
-        Ok(log) => Ok(log),
-        Err(_) => Err(ReplayFault::Memory),
-    }
+    let mut channel = Channel::open(kind, setting, filter, row, limits)?;
+    Ok(follow(heap, &mut channel, row, calls)?)
 }

@@ -1,6 +1,6 @@
 ghost use Rattle.std.specs.Prelude.{◌≡◌, ◌≤◌, List, length, drop, IfOk};
 ghost use Rattle.channel.specs.Channels.{feed, swap, hush};
-ghost use Rattle.channel.specs.Running.{registers_in, nodes_in};
+ghost use Rattle.channel.specs.Running.{registers_in};
 ghost use Rattle.replay.specs.Log.{lent};
 ghost use Rattle.replay.specs.Replaying.{Works};
 
@@ -15,15 +15,14 @@ use std::alloc::{AllocError, Global};
 fn feed_on<K: Kind, R: Rounding, O: Overflow>(
     heap: Global,
     channel: &mut Channel<K, R, O>,
-    nodes: usize,
     row: &mut [K::Value],
     working: &[K::Value],
     sample: i32,
 ) -> Result<Told<K::Value>, AllocError>
-    requires { nodes ≡ nodes_in channel.old }
     ensures works { IfOk result (λ t. Works K.Kind.model R.Rounding.rule O.Overflow.rule channel.old row.old (feed (length row.old) (length working.now) sample) channel.new row.new t) }
     ensures rest { drop (registers_in channel.old) row.new ≡ drop (registers_in channel.old) row.old }
 {
+    let nodes = channel.nodes();
     let mut places = Vec::from_slice(heap, working)?;
     match channel.feed(row, &mut places, sample) {
         Ok(output) => {
@@ -64,12 +63,10 @@ fn hush_on<K: Kind, R: Rounding, O: Overflow>(
 pub(crate) fn work<K: Kind, R: Rounding, O: Overflow>(
     heap: Global,
     channel: &mut Channel<K, R, O>,
-    nodes: usize,
     row: &mut [K::Value],
     call: &Call<K::Value>,
 ) -> Result<Told<K::Value>, AllocError>
-    requires nodes { nodes ≡ nodes_in channel.old }
-    requires row { registers_in channel.old ≤ length row.old }
+    requires { registers_in channel.old ≤ length row.old }
     ensures works { IfOk result (λ t. Works K.Kind.model R.Rounding.rule O.Overflow.rule channel.old row.old (lent (length row.old) call.now) channel.new row.new t) }
     ensures rest { drop (registers_in channel.old) row.new ≡ drop (registers_in channel.old) row.old }
 {
@@ -80,8 +77,7 @@ pub(crate) fn work<K: Kind, R: Rounding, O: Overflow>(
             sample,
         } => {
             let count = (*registers).min(row.len());
-            let told = feed_on(heap, channel, nodes, &mut row[0..count], working, *sample)?;
-            Ok(told)
+            Ok(feed_on(heap, channel, &mut row[0..count], working, *sample)?)
         }
         Call::Swap(coefficients) => Ok(swap_on(channel, coefficients)),
         Call::Hush { registers } => {

@@ -39,7 +39,7 @@ impl From<WiringFault> for ProgramFault {
     ghost from_gives = { λ e r. r ≡ Wiring e };
 
     fn from(fault: WiringFault) -> ProgramFault {
-        ProgramFault::Wiring(fault)
+        Self::Wiring(fault)
     }
 }
 

@@ -16,7 +16,7 @@ returns-in-Ok g c =
     let full : length c.feed.new.working ≡ c.in_ok-places.places.len = search rules in
     let w = fed_works g.K.Kind.model g.R.Rounding.rule g.O.Overflow.rule c.args.channel.now c.feed.new.self c.args.row.now c.feed.new.registers _
     (length c.args.working.now) c.args.sample (to_z w32 (of_z w32 c.args.sample)) c.deref_mut.result.now n (to_z-of_z w32 c.args.sample c.ranges.sample) c.feed.new.working (vec_items c.in_ok-nodes-in-Ok.nodes) c.in-Ok.output
-    e.answer e.working e.registers e.leaves e.same k (j.items ∙ taken_front c.args.nodes (nodes_in c.args.channel.now) c.deref.result.now c.requires ∙ ap (take (nodes_in c.args.channel.now)) (c.deref.ensures.value ∙ take_at c.feed.new.working _ c.in_ok-places.places.len full)) refl in
+    e.answer e.working e.registers e.leaves e.same k (j.items ∙ taken_front c.nodes-nodes.result (nodes_in c.args.channel.now) c.deref.result.now c.nodes-nodes.ensures ∙ ap (take (nodes_in c.args.channel.now)) (c.deref.ensures.value ∙ take_at c.feed.new.working _ c.in_ok-places.places.len full)) refl in
     record { works = w; rest = w.rest }
 
 pub returns : goal.returns
