@@ -5,6 +5,10 @@ use Rattle.std.specs.Prelude.{ℕ, ◌-◌, ◌^◌, Bool, ◌&&◌, ℤ, pos, n
 abbrev pub half : ℕ → ℕ
 half w = 2 ^ (w - 1)
 
+-- a quarter of the words: 2^(w-2)
+abbrev pub quarter : ℕ → ℕ
+quarter w = 2 ^ (w - 2)
+
 -- z is a word of w bits: from -2^(w-1) to 2^(w-1) - 1
 pub record Inside (w : ℕ) (z : ℤ) : Type 0 where
   pub low : neg_ℤ (pos (half w)) ≤ℤ z

@@ -1,5 +1,5 @@
 ghost use Rattle.std.specs.Prelude.{◌≡◌, ◌^◌, pos};
-ghost use Rattle.arithmetic.specs.Words.{half, inside};
+ghost use Rattle.arithmetic.specs.Words.{half, quarter, inside};
 ghost use Rattle.arithmetic.specs.Formats.{width as word_width, FormatAnswer, CoefficientAnswer, format_number};
 
 use crate::format::{Coefficient, Format, FormatFault, Width};
@@ -76,6 +76,13 @@ impl Width {
         ensures { result ≡ pos (half self.now.bits) }
     {
         1i64 << (self.bits - 1)
+    }
+
+    // A quarter of the words: 2^(w-2).
+    pub fn quarter(&self) -> i32
+        ensures { result ≡ pos (quarter self.now.bits) }
+    {
+        1i32 << (self.bits - 2)
     }
 }
 
