@@ -8,7 +8,7 @@ use crate::format::{Format, Width};
 use crate::overflow::{Overflow, Saturate, Stop, Wrap};
 use crate::rounding::{Floor, Nearest, Rounding, TowardZero};
 
-// One of the three rounding rules.
+// One of the three rounding rules. An enum and not a dyn, since a file's reader could not make a dyn and hand it out.
 #[derive(Clone, Copy, PartialEq, Eq, Debug)]
 pub enum RoundingChoice {
     Floor,
@@ -50,7 +50,7 @@ impl Rounding for RoundingChoice {
     }
 }
 
-// One of the three overflow rules.
+// One of the three overflow rules, as an enum for the same reason.
 #[derive(Clone, Copy, PartialEq, Eq, Debug)]
 pub enum OverflowChoice {
     Wrap,
