@@ -1,5 +1,7 @@
 -- Totals by register, one behind the other.
-use Rattle.std.proofs.Common.{◌≡◌, ℕ, ◌+◌, min, Bool, true, false, cond, ltb, List, [], ◌∷◌, ◌++◌, length, sym, refl, ap, ◌∙◌, append_assoc, arith, length-append}
+use Rattle.std.proofs.Common.{◌≡◌, ℕ, ◌+◌, min, Bool, true, false, cond, ltb, List, [], ◌∷◌, ◌++◌, length, Option, sym, refl, ap, ◌∙◌, append_assoc, arith, length-append}
+use Rattle.std.specs.Bool.{then_some}
+use Rattle.std.specs.Option.{is_some, option_to_list}
 use Rattle.std.specs.List.{range_with_len, flat_map}
 use Rattle.std.proofs.lemmas.List.FromFn.{map-range_with_len_more}
 use Rattle.std.proofs.lemmas.List.{flat_map_more, map-id}
@@ -9,18 +11,30 @@ use Rattle.wiring.specs.declared.graph.Node.TheVariants.{Sum, Difference}
 use Rattle.forms.specs.Parts.{total_nodes, total_end, total_place, totals_of}
 
 -- one total, made of a sum and a difference that may be left out
+added : {A : Type 0} (more : Bool) (x : A) (o : Option A) (was now : List A) → o ≡ then_some more x → now ≡ was ++ option_to_list o → now ≡ was ++ cond more (x ∷ []) []
+added true x o was now d e = rw d at e
+added false x o was now d e = rw d at e
+
 after_one : {A : Type 0} (more : Bool) (x : A) (was now : List A) → now ≡ was ++ cond more (x ∷ []) [] → length now ≡ cond more (length was + 1) (length was)
 after_one true x was now e = ap length e ∙ length-append was (x ∷ []) ∙ omega arith
 after_one false x was now e = ap length e ∙ length-append was [] ∙ omega arith
 
-pub total_laid : (more less : Bool) (start place p q s mid e : ℕ) (i0 i1 i2 : List Node) → place ≡ length i0 → mid ≡ length i1
-    → i1 ≡ i0 ++ cond more (Sum start p ∷ []) [] → s ≡ cond more place start
-    → i2 ≡ i1 ++ cond less (Difference s q ∷ []) [] → e ≡ cond less mid s
+number_of : {A : Type 0} (more : Bool) (x : A) (o : Option A) (n at before : ℕ) → o ≡ then_some more x → n ≡ cond (is_some o) at before → n ≡ cond more at before
+number_of true x o n at before d e = rw d at e
+number_of false x o n at before d e = rw d at e
+
+pub total_laid : (more less : Bool) (start place p q s mid e : ℕ) (plus minus : Option Node) (i0 i1 i2 : List Node) → place ≡ length i0 → mid ≡ length i1
+    → plus ≡ then_some more (Sum start p) → i1 ≡ i0 ++ option_to_list plus → s ≡ cond (is_some plus) place start
+    → minus ≡ then_some less (Difference s q) → i2 ≡ i1 ++ option_to_list minus → e ≡ cond (is_some minus) mid s
     → (i2 ≡ i0 ++ total_nodes more less start place p q) × (e ≡ total_end more less start place)
-total_laid more less start place p q s mid e i0 i1 i2 ep em e1 es e2 ee =
-    let m : mid ≡ cond more (place + 1) place = em ∙ after_one more (Sum start p) i0 i1 e1 ∙ ap (λ k. cond more (k + 1) k) (sym ep) in (
-      e2 ∙ ap (λ k. i1 ++ cond less (Difference k q ∷ []) []) es ∙ ap (λ l. l ++ cond less (Difference (cond more place start) q ∷ []) []) e1 ∙ append_assoc i0 _ _,
-      rw (ee, m, es) refl,
+total_laid more less start place p q s mid e plus minus i0 i1 i2 ep em op e1 es om e2 ee =
+    let a1 = added more (Sum start p) plus i0 i1 op e1 in
+    let a2 = added less (Difference s q) minus i1 i2 om e2 in
+    let ns = number_of more (Sum start p) plus s place start op es in
+    let ne = number_of less (Difference s q) minus e mid s om ee in
+    let m : mid ≡ cond more (place + 1) place = em ∙ after_one more (Sum start p) i0 i1 a1 ∙ ap (λ k. cond more (k + 1) k) (sym ep) in (
+      a2 ∙ ap (λ k. i1 ++ cond less (Difference k q ∷ []) []) ns ∙ ap (λ l. l ++ cond less (Difference (cond more place start) q ∷ []) []) a1 ∙ append_assoc i0 _ _,
+      rw (ne, m, ns) refl,
     )
 
 -- ---- one register more

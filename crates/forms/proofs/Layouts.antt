@@ -29,11 +29,11 @@ laid_direct1 N M k n nb nc p l3 s l4 o i1 i2 i3 i4 i5 ek en eb ec ep e3 e4 a1 a2
     let r4 : l4 ≡ direct1_totals N M + N = omega arith in
     (rw (a5, a4, a3, a2, a1, at5, r4, r3, r1, ec, eb, en, ek) refl, rw (ao, at5, r4, r3, r1, en) refl)
 
-pub wired_direct1 : (N M nb : ℕ) (nodes : List Node) (s0 s1 : List ℕ) (k o : ℕ) (s2 : List ℕ) → nb ≡ N + 1 → k ≡ N + 1 + M
+pub wired_direct1 : (N M n nb : ℕ) (nodes : List Node) (s0 s1 : List ℕ) (k o : ℕ) (s2 : List ℕ) → n ≡ N → nb ≡ N + 1 → k ≡ N + 1 + M
     → nodes ≡ direct1_nodes N M → o ≡ direct1_output N M
-    → s0 ≡ [] → s1 ≡ s0 ++ delays 0 1 N → s2 ≡ s1 ++ delays o nb M
+    → s0 ≡ [] → s1 ≡ s0 ++ delays 0 1 n → s2 ≡ s1 ++ delays o nb M
     → ◌≡◌ {A = Graph} (record { nodes = nodes; coefficients = k; output = o; sources = s2 }) (direct1 N M)
-wired_direct1 N M nb nodes s0 s1 k o s2 eb ek en eo e0 e1 e2 = rw (e2, e1, e0, en, eo, ek, eb) refl
+wired_direct1 N M n nb nodes s0 s1 k o s2 el eb ek en eo e0 e1 e2 = rw (e2, e1, e0, en, eo, ek, eb, el) refl
 
 pub wired_direct2 : (N M k n nb f m p l2 l4 c o : ℕ) (i1 i2 i3 i4 i5 : List Node) (s0 s1 : List ℕ)
     → k ≡ max N M → n ≡ N → nb ≡ N + 1 → c ≡ N + 1 + M → f ≡ length i1 → l2 ≡ length i2 → p ≡ length i3 → l4 ≡ length i4
@@ -66,16 +66,16 @@ ladder_places N M k nb i1 i2 i3 i4 i5 p ek eb a1 a2 a3 a4 a5 =
     let q5 = grown_length _ i4 i5 M a5 in
     (omega arith, omega arith, omega arith)
 
-pub wired_transposed2 : (N M k n nb p o l5 c : ℕ) (i1 i2 i3 i4 i5 i6 : List Node) (s0 s1 : List ℕ)
-    → k ≡ max N M → n ≡ N → nb ≡ N + 1 → c ≡ N + 1 + M → p ≡ length i2 → o ≡ length i3 → l5 ≡ length i5 → eqb k 0 ≡ false
+pub wired_transposed2 : (N M k nb p o l5 c : ℕ) (i1 i2 i3 i4 i5 i6 : List Node) (s0 s1 : List ℕ)
+    → k ≡ max N M → nb ≡ N + 1 → c ≡ N + 1 + M → p ≡ length i2 → o ≡ length i3 → l5 ≡ length i5 → eqb k 0 ≡ false
     → i1 ≡ Input ∷ registers k → i2 ≡ i1 ++ Zero ∷ [] → i3 ≡ i2 ++ gains 0 0 nb → i4 ≡ i3 ++ Sum p 1 ∷ [] → i5 ≡ i4 ++ gains o nb M
-    → i6 ≡ i5 ++ flat_map (totals_of l5 (p + 1) (o + 1) n M) (range_with_len 0 (max n M))
-    → s0 ≡ [] → s1 ≡ s0 ++ listed (end_of l5 (p + 1) (o + 1) n M) (max n M)
+    → i6 ≡ i5 ++ flat_map (totals_of l5 (p + 1) (o + 1) N M) (range_with_len 0 (max N M))
+    → s0 ≡ [] → s1 ≡ s0 ++ listed (end_of l5 (p + 1) (o + 1) N M) (max N M)
     → ◌≡◌ {A = Graph} (record { nodes = i6; coefficients = c; output = o; sources = s1 }) (transposed2 N M)
-wired_transposed2 N M k n nb p o l5 c i1 i2 i3 i4 i5 i6 s0 s1 ek en eb ec ep eo e5 some a1 a2 a3 a4 a5 a6 b0 b1 =
+wired_transposed2 N M k nb p o l5 c i1 i2 i3 i4 i5 i6 s0 s1 ek eb ec ep eo e5 some a1 a2 a3 a4 a5 a6 b0 b1 =
     let q = ladder_places N M k nb i1 i2 i3 i4 i5 p ek eb a1 a2 a3 a4 (a5 ∙ ap (λ x. i4 ++ gains x nb M) eo) in
     let rp : p ≡ transposed2_products N M = ep ∙ q.0 in
     let ro : o ≡ transposed2_output N M = eo ∙ q.1 in
     let r5 : l5 ≡ transposed2_totals N M = e5 ∙ q.2 in
     let t : eqb (max N M) 0 ≡ false = ap (λ x. eqb x 0) (sym ek) ∙ some in
-    rw (b1, b0, a6, a5, a4, a3, a2, a1, r5, ro, rp, ec, eb, en, ek) (sym (ap (λ z. cond z transposed2_gain (transposed2_recursive N M)) t))
+    rw (b1, b0, a6, a5, a4, a3, a2, a1, r5, ro, rp, ec, eb, ek) (sym (ap (λ z. cond z transposed2_gain (transposed2_recursive N M)) t))

@@ -1,5 +1,5 @@
 -- The rows of nodes that the forms are made of.
-use Rattle.std.specs.Prelude.{ℕ, zero, suc, ◌+◌, min, Bool, cond, List, [], ◌∷◌, ◌++◌, map, nat_lt}
+use Rattle.std.specs.Prelude.{◌≡◌, ℕ, zero, suc, ◌+◌, ◌<◌, min, Bool, cond, List, [], ◌∷◌, ◌++◌, map, nat_lt}
 use Rattle.std.specs.List.{range_with_len}
 use Rattle.wiring.specs.declared.graph.Node.{Node}
 use Rattle.wiring.specs.declared.graph.Node.TheVariants.{Register, Scale, Sum, Difference}
@@ -7,6 +7,10 @@ use Rattle.wiring.specs.declared.graph.Node.TheVariants.{Register, Scale, Sum, D
 -- f 0, f 1 and so on, n entries
 abbrev pub listed : {A : Type 0} → (ℕ → A) → ℕ → List A
 listed f n = map f (range_with_len 0 n)
+
+-- below n, f is what the calls give
+abbrev pub GivesBelow : {A : Type 0} → ℕ → (ℕ → A → Type 0) → (ℕ → A) → Type 0
+GivesBelow n gives f = (i : ℕ) (x : _) → i < n → gives i x → x ≡ f i
 
 -- the i-th node of a chain: node `from` itself, then the nodes from number `place` on
 abbrev pub chain : ℕ → ℕ → ℕ → ℕ
@@ -17,9 +21,13 @@ chain from place (suc i) = place + i
 abbrev pub registers : ℕ → List Node
 registers n = listed Register n
 
+-- n nodes, each made of the node of a chain at its place and of a number; the first number is c
+abbrev pub chained : (ℕ → ℕ → Node) → ℕ → ℕ → ℕ → ℕ → List Node
+chained make from place c n = listed (λ i. make (chain from place i) (c + i)) n
+
 -- n coefficients, of which the first has the number c, each times the node of a chain at its place
 abbrev pub taps : ℕ → ℕ → ℕ → ℕ → List Node
-taps from place c n = listed (λ i. Scale (chain from place i) (c + i)) n
+taps = chained Scale
 
 -- n coefficients, of which the first has the number c, each times the same node
 abbrev pub gains : ℕ → ℕ → ℕ → List Node
@@ -28,11 +36,11 @@ gains node c n = listed (λ i. Scale node (c + i)) n
 -- Totals in turn: to node `start` the n nodes from number `first` on are added one by one.
 -- The totals have the numbers from `place` on, so that the last of them is node `chain start place n`.
 abbrev pub sums : ℕ → ℕ → ℕ → ℕ → List Node
-sums start place first n = listed (λ i. Sum (chain start place i) (first + i)) n
+sums = chained Sum
 
 -- the same, subtracted
 abbrev pub differences : ℕ → ℕ → ℕ → ℕ → List Node
-differences start place first n = listed (λ i. Difference (chain start place i) (first + i)) n
+differences = chained Difference
 
 -- the sources of a delay line of n registers, which are nodes from number `place` on: the first takes node `from`, each other the register before it
 abbrev pub delays : ℕ → ℕ → ℕ → List ℕ

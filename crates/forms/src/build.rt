@@ -1,6 +1,7 @@
 ghost use Rattle.std.specs.Prelude.{◌≡◌, ◌++◌, IfOk};
 ghost use Rattle.forms.specs.Built.{BuildAnswer, SoundFilter, EquationKept};
 
+use crate::coefficients::Coefficients;
 use crate::direct1::direct1;
 use crate::direct2::direct2;
 use crate::form::{Filter, Form, FormFault, MAX_DENOMINATOR, MAX_NUMERATOR};
@@ -30,10 +31,11 @@ impl Form {
         if a.len() > MAX_DENOMINATOR {
             return Err(FormFault::Denominator);
         }
+        let lists = Coefficients { b, a };
         let wiring = match self {
-            Form::Direct1 => direct1(heap, b, a)?,
-            Form::Direct2 => direct2(heap, b, a)?,
-            Form::Transposed2 => transposed2(heap, b, a)?,
+            Form::Direct1 => direct1(heap, lists)?,
+            Form::Direct2 => direct2(heap, lists)?,
+            Form::Transposed2 => transposed2(heap, lists)?,
         };
         let coefficients = joined(heap, b, a)?;
         Ok(Filter {

@@ -2,6 +2,7 @@
 #![tactic(auto)]
 
 pub mod build;
+mod coefficients;
 mod direct1;
 mod direct2;
 pub mod form;

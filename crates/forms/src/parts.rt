@@ -1,15 +1,30 @@
-ghost use Rattle.std.specs.Prelude.{◌≡◌, ◌+◌, ◌^◌, ◌<◌, max, ◌∷◌, ◌++◌, length, IfOk, vec_len, OnOk};
+ghost use Rattle.std.specs.Prelude.{◌≡◌, ℕ, ◌+◌, ◌^◌, ◌<◌, ◌∷◌, ◌++◌, length, IfOk, vec_len, OnOk};
+ghost use Rattle.wiring.specs.declared.graph.Node.{Node as NodeValue};
 ghost use Rattle.wiring.specs.declared.graph.Node.TheVariants.{Input};
-ghost use Rattle.forms.specs.Parts.{chain, registers as register_nodes, taps, gains, sums, differences, delays};
+ghost use Rattle.forms.specs.Parts.{listed, GivesBelow, chain as node_of_chain, registers as register_nodes, chained, taps, gains, delays};
 
 use std::alloc::{AllocError, Global};
 use wiring::graph::Node;
 
-// The longer of two lists.
-pub(crate) fn longer<'a>(p: &'a [i32], q: &'a [i32]) -> &'a [i32]
-    ensures { length result.now ≡ max (length p.now) (length q.now) }
-{
-    if p.len() < q.len() { q } else { p }
+// A chain of nodes: node `from`, then the nodes from number `place` on.
+#[derive(Clone, Copy)]
+pub(crate) struct Chain {
+    pub(crate) from: usize,
+    pub(crate) place: usize,
+}
+
+impl Chain {
+    // Its i-th node.
+    pub(crate) fn node(self, i: usize) -> usize
+        requires { self.place + i < 2 ^ 64 }
+        ensures { result ≡ node_of_chain self.from self.place i }
+    {
+        if i == 0 {
+            self.from
+        } else {
+            self.place + (i - 1)
+        }
+    }
 }
 
 // The input and so many registers.
@@ -18,33 +33,44 @@ pub(crate) fn start(heap: Global, registers: usize) -> Result<Vec<Node>, AllocEr
 {
     let mut nodes = Vec::new(heap);
     nodes.push(Node::Input)?;
-    for r in 0..registers {
-        nodes.push(Node::Register(r))?;
-    }
+    nodes.extend((0..registers).map(Node::Register))?;
     Ok(nodes)
 }
 
-// Each coefficient times the node of a chain at its place: node `from`, then the nodes from number `place` on.
+// Adds an entry for each coefficient, made from its index.
+fn add_row<T: Drop, F: Fn(usize) -> T>(
+    row: &mut Vec<T>,
+    coefficients: &[i32],
+    make: F,
+) -> Result<(), AllocError>
+    requires { (i : ℕ) → i < length coefficients.now → F.pre make i }
+    ensures { (f : ℕ → T) → GivesBelow (length coefficients.now) (F.post make) f → OnOk result (row.new.items ≡ row.old.items ++ listed f (length coefficients.now)) }
+{
+    for (i, _) in coefficients.iter().enumerate() {
+        row.push(make(i))?;
+    }
+    Ok(())
+}
+
+// Each coefficient times the node of a chain at its place.
 pub(crate) fn add_taps(
     nodes: &mut Vec<Node>,
-    from: usize,
-    place: usize,
+    chain: Chain,
     number: usize,
     coefficients: &[i32],
 ) -> Result<(), AllocError>
-    requires places { place + length coefficients.now < 2 ^ 32 }
+    requires places { chain.place + length coefficients.now < 2 ^ 32 }
     requires numbers { number + length coefficients.now < 2 ^ 32 }
-    ensures { OnOk result (nodes.new.items ≡ nodes.old.items ++ taps from place number (length coefficients.now)) }
+    ensures { OnOk result (nodes.new.items ≡ nodes.old.items ++ taps chain.from chain.place number (length coefficients.now)) }
 {
-    let mut node = from;
-    for (i, _) in coefficients.iter().enumerate() {
-        nodes.push(Node::Scale {
-            node,
+    add_row(
+        nodes,
+        coefficients,
+        |i| Node::Scale {
+            node: chain.node(i),
             coefficient: number + i,
-        })?;
-        node = place + i;
-    }
-    Ok(())
+        },
+    )
 }
 
 // Each coefficient times the same node.
@@ -57,67 +83,45 @@ pub(crate) fn add_gains(
     requires { number + length coefficients.now < 2 ^ 32 }
     ensures { OnOk result (nodes.new.items ≡ nodes.old.items ++ gains node number (length coefficients.now)) }
 {
-    for (i, _) in coefficients.iter().enumerate() {
-        nodes.push(Node::Scale {
+    add_row(
+        nodes,
+        coefficients,
+        |i| Node::Scale {
             node,
             coefficient: number + i,
-        })?;
-    }
-    Ok(())
+        },
+    )
 }
 
-// Adds the products of the coefficients, which are nodes from number `first` on, to node `start` in turn; answers the last total's number.
-pub(crate) fn add_sums(
-    nodes: &mut Vec<Node>,
-    start: usize,
-    first: usize,
-    coefficients: &[i32],
-) -> Result<usize, AllocError>
-    requires { first + length coefficients.now < 2 ^ 32 }
-    ensures { IfOk result (λ total. (nodes.new.items ≡ nodes.old.items ++ sums start (vec_len nodes.old) first (length coefficients.now)) × (total ≡ chain start (vec_len nodes.old) (length coefficients.now))) }
-{
-    let mut total = start;
-    for (i, _) in coefficients.iter().enumerate() {
-        let next = nodes.len();
-        nodes.push(Node::Sum(total, first + i))?;
-        total = next;
-    }
-    Ok(total)
-}
-
-// The same, subtracted.
-pub(crate) fn add_differences(
-    nodes: &mut Vec<Node>,
-    start: usize,
-    first: usize,
-    coefficients: &[i32],
-) -> Result<usize, AllocError>
-    requires { first + length coefficients.now < 2 ^ 32 }
-    ensures { IfOk result (λ total. (nodes.new.items ≡ nodes.old.items ++ differences start (vec_len nodes.old) first (length coefficients.now)) × (total ≡ chain start (vec_len nodes.old) (length coefficients.now))) }
-{
-    let mut total = start;
-    for (i, _) in coefficients.iter().enumerate() {
-        let next = nodes.len();
-        nodes.push(Node::Difference(total, first + i))?;
-        total = next;
-    }
-    Ok(total)
-}
-
-// The sources of a delay line of so many registers, which are nodes from number `place` on: the first takes node `from`, each other the register before it.
+// The sources of a delay line with a register for each coefficient: each takes the node of the chain at its place.
 pub(crate) fn add_delays(
     sources: &mut Vec<usize>,
-    from: usize,
-    place: usize,
-    registers: usize,
+    chain: Chain,
+    coefficients: &[i32],
 ) -> Result<(), AllocError>
-    requires { place + registers < 2 ^ 32 }
-    ensures { OnOk result (sources.new.items ≡ sources.old.items ++ delays from place registers) }
+    requires { chain.place + length coefficients.now < 2 ^ 32 }
+    ensures { OnOk result (sources.new.items ≡ sources.old.items ++ delays chain.from chain.place (length coefficients.now)) }
 {
-    let mut source = from;
-    for r in 0..registers {
-        sources.push(source)?;
-        source = place + r;
-    }
-    Ok(())
+    add_row(sources, coefficients, |i| chain.node(i))
+}
+
+// Totals in turn: to node `start` the products of the coefficients, which are nodes from number `first` on, are added or
+// subtracted one by one. Answers the last total's number.
+pub(crate) fn add_running_totals<F: Fn(usize, usize) -> Node>(
+    nodes: &mut Vec<Node>,
+    start: usize,
+    first: usize,
+    coefficients: &[i32],
+    make: F,
+) -> Result<usize, AllocError>
+    requires numbers { first + length coefficients.now < 2 ^ 32 }
+    requires makes { F.IsAlwaysCallable make }
+    ensures { (op : ℕ → ℕ → NodeValue) → ((p q : ℕ) (made : NodeValue) → F.post make p q made → made ≡ op p q) → IfOk result (λ total. (nodes.new.items ≡ nodes.old.items ++ chained op start (vec_len nodes.old) first (length coefficients.now)) × (total ≡ node_of_chain start (vec_len nodes.old) (length coefficients.now))) }
+{
+    let totals = Chain {
+        from: start,
+        place: nodes.len(),
+    };
+    add_row(nodes, coefficients, |i| make(totals.node(i), first + i))?;
+    Ok(totals.node(coefficients.len()))
 }

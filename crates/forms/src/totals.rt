@@ -1,23 +1,23 @@
-ghost use Rattle.std.specs.Prelude.{◌≡◌, ◌+◌, ◌^◌, ◌<◌, max, [], ◌∷◌, ◌++◌, length, IfOk, if◌then◌else◌, vec_len, OnOk, nat_lt};
+ghost use Rattle.std.specs.Prelude.{◌≡◌, ◌+◌, ◌-◌, ◌^◌, ◌<◌, max, [], ◌∷◌, ◌++◌, length, IfOk, if◌then◌else◌, vec_len, OnOk, nat_lt, is_some};
 ghost use Rattle.std.specs.List.{range_with_len, flat_map};
+ghost use Rattle.std.specs.Option.{option_to_list};
 ghost use Rattle.forms.specs.Parts.{listed, total_nodes, total_end, totals_of, end_of};
 
-use crate::parts::longer;
+use crate::coefficients::Coefficients;
 use std::alloc::AllocError;
 use wiring::graph::Node;
 
-// Adds the node if it is wanted and answers its number; else answers the number `before`.
-fn add_if(
+// Adds the node if there is one and answers its number; else answers the number `before`.
+fn add_if_some(
     nodes: &mut Vec<Node>,
-    wanted: bool,
-    node: Node,
+    node: Option<Node>,
     before: usize,
 ) -> Result<usize, AllocError>
-    ensures { IfOk result (λ n. (nodes.new.items ≡ nodes.old.items ++ (if wanted then node ∷ [] else [])) × (n ≡ (if wanted then vec_len nodes.old else before))) }
+    ensures { IfOk result (λ n. (nodes.new.items ≡ nodes.old.items ++ option_to_list node) × (n ≡ (if is_some node then vec_len nodes.old else before))) }
 {
-    if !wanted {
+    let Some(node) = node else {
         return Ok(before);
-    }
+    };
     let number = nodes.len();
     nodes.push(node)?;
     Ok(number)
@@ -29,17 +29,18 @@ fn add_total(
     nodes: &mut Vec<Node>,
     i: usize,
     first: usize,
-    later: &[i32],
     back: usize,
-    a: &[i32],
+    lists: Coefficients,
 ) -> Result<usize, AllocError>
     requires turn { i < 2 ^ 16 }
     requires places { first + back < 2 ^ 16 }
-    ensures { IfOk result (λ end. (nodes.new.items ≡ nodes.old.items ++ total_nodes (nat_lt i (length later.now)) (nat_lt i (length a.now)) (i + 2) (vec_len nodes.old) (first + i) (back + i)) × (end ≡ total_end (nat_lt i (length later.now)) (nat_lt i (length a.now)) (i + 2) (vec_len nodes.old))) }
+    ensures { let N = length lists.entry.b.now - 1 in let M = length lists.entry.a.now in IfOk result (λ end. (nodes.new.items ≡ nodes.old.items ++ total_nodes (nat_lt i N) (nat_lt i M) (i + 2) (vec_len nodes.old) (first + i) (back + i)) × (end ≡ total_end (nat_lt i N) (nat_lt i M) (i + 2) (vec_len nodes.old))) }
 {
     let behind = i + 2;
-    let sum = add_if(nodes, i < later.len(), Node::Sum(behind, first + i), behind)?;
-    add_if(nodes, i < a.len(), Node::Difference(sum, back + i), sum)
+    let plus = (i < lists.later().len()).then_some(Node::Sum(behind, first + i));
+    let sum = add_if_some(nodes, plus, behind)?;
+    let minus = (i < lists.a.len()).then_some(Node::Difference(sum, back + i));
+    add_if_some(nodes, minus, sum)
 }
 
 // The totals by register, and each register's source: the last node of its total.
@@ -47,17 +48,15 @@ pub(crate) fn add_totals(
     nodes: &mut Vec<Node>,
     sources: &mut Vec<usize>,
     first: usize,
-    later: &[i32],
     back: usize,
-    a: &[i32],
+    lists: Coefficients,
 ) -> Result<(), AllocError>
-    requires few { max (length later.now) (length a.now) < 2 ^ 16 }
-    requires places { first + back < 2 ^ 16 }
-    ensures nodes { OnOk result (nodes.new.items ≡ nodes.old.items ++ flat_map (totals_of (vec_len nodes.old) first back (length later.now) (length a.now)) (range_with_len 0 (max (length later.now) (length a.now)))) }
-    ensures sources { OnOk result (sources.new.items ≡ sources.old.items ++ listed (end_of (vec_len nodes.old) first back (length later.now) (length a.now)) (max (length later.now) (length a.now))) }
+    requires { first + back < 2 ^ 16 }
+    ensures nodes { let N = length lists.entry.b.now - 1 in let M = length lists.entry.a.now in OnOk result (nodes.new.items ≡ nodes.old.items ++ flat_map (totals_of (vec_len nodes.old) first back N M) (range_with_len 0 (max N M))) }
+    ensures sources { let N = length lists.entry.b.now - 1 in let M = length lists.entry.a.now in OnOk result (sources.new.items ≡ sources.old.items ++ listed (end_of (vec_len nodes.old) first back N M) (max N M)) }
 {
-    for (i, _) in longer(later, a).iter().enumerate() {
-        let end = add_total(nodes, i, first, later, back, a)?;
+    for (i, _) in lists.longer().iter().enumerate() {
+        let end = add_total(nodes, i, first, back, lists)?;
         sources.push(end)?;
     }
     Ok(())

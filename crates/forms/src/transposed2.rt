@@ -2,7 +2,8 @@ ghost use Rattle.std.specs.Prelude.{◌≡◌, ◌-◌, ◌≤◌, length, IfOk}
 ghost use Rattle.wiring.specs.Graphs.{graph_of};
 ghost use Rattle.forms.specs.Forms.{transposed2 as transposed2_graph, transposed2_gain};
 
-use crate::parts::{add_gains, longer, start};
+use crate::coefficients::Coefficients;
+use crate::parts::{add_gains, start};
 use crate::totals::add_totals;
 use std::alloc::{AllocError, Global};
 use wiring::graph::{Node, Wiring};
@@ -25,13 +26,11 @@ fn gain(heap: Global) -> Result<Wiring, AllocError>
 }
 
 // Transposed form 2: each register takes a total, which starts at the register behind it.
-pub(crate) fn transposed2(heap: Global, b: &[i32], a: &[i32]) -> Result<Wiring, AllocError>
-    requires some { 1 ≤ length b.now }
-    requires few { (length b.now ≤ 9) × (length a.now ≤ 8) }
-    ensures { IfOk result (λ w. graph_of w ≡ transposed2_graph (length b.now - 1) (length a.now)) }
+pub(crate) fn transposed2(heap: Global, lists: Coefficients) -> Result<Wiring, AllocError>
+    ensures { IfOk result (λ w. graph_of w ≡ transposed2_graph (length lists.entry.b.now - 1) (length lists.entry.a.now)) }
 {
-    let later = &b[1..];
-    let order = longer(later, a).len();
+    let Coefficients { b, a } = lists;
+    let order = lists.longer().len();
     if order == 0 {
         return gain(heap);
     }
@@ -43,10 +42,10 @@ pub(crate) fn transposed2(heap: Global, b: &[i32], a: &[i32]) -> Result<Wiring, 
     nodes.push(Node::Sum(products, 1))?;
     add_gains(&mut nodes, output, b.len(), a)?;
     let mut sources = Vec::new(heap);
-    add_totals(&mut nodes, &mut sources, products + 1, later, output + 1, a)?;
+    add_totals(&mut nodes, &mut sources, products + 1, output + 1, lists)?;
     Ok(Wiring {
         nodes,
-        coefficients: b.len() + a.len(),
+        coefficients: lists.count(),
         output,
         sources,
     })

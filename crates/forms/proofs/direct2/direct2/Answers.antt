@@ -1,33 +1,32 @@
-use Rattle.std.proofs.Common.{◌≡◌, ◌+◌, ◌-◌, max, length, vec_items, ap, ◌∙◌, arith}
-use Rattle.forms.proofs.Growing.{later_length, grown_length}
+use Rattle.std.proofs.Common.{◌≡◌, ◌+◌, ◌-◌, length, vec_items, ◌∙◌, arith}
+use Rattle.wiring.specs.declared.graph.Node.TheVariants.{Sum, Difference}
+use Rattle.forms.proofs.Growing.{grown_length}
 use Rattle.forms.proofs.Layouts.{start_length, wired_direct2}
 use Rattle.forms.proofs.direct2.direct2.Goals as goal
 
-pub add_differences-requires : goal.add_differences-requires
-add_differences-requires c =
-    let e = later_length c.args.b.now in
-    let p = start_length _ _ c.in_ok-nodes.ensures in
-    omega arith
+pub add_running_totals-requires-clause-numbers : goal.add_running_totals-requires-clause-numbers
+add_running_totals-requires-clause-numbers c = let p = start_length _ _ c.in_ok-nodes.ensures in omega arith
 
-pub add_sums-requires : goal.add_sums-requires
-add_sums-requires c =
-    let e = later_length c.args.b.now in
+pub add_running_totals-requires-2-clause-numbers : goal.add_running_totals-requires-2-clause-numbers
+add_running_totals-requires-2-clause-numbers c =
     let p = start_length _ _ c.in_ok-nodes.ensures in
-    let m = length c.args.a.now in
+    let m = length c.args.lists.a.now in
     let q : length (vec_items c.add_taps.new.nodes) ≡ length (vec_items c.in_ok-nodes.nodes) + m = grown_length _ _ _ m c.in_ok-add_taps.ensures in
-    let r : length (vec_items c.add_differences.new.nodes) ≡ length (vec_items c.add_taps.new.nodes) + m = grown_length _ _ _ m c.in_ok-middle.ensures.0 in
-    let l : c.len-products.result ≡ length (vec_items c.add_differences.new.nodes) = c.len-products.ensures ∙ c.add_differences.new.nodes.ok.0 in
+    let differences = c.in_ok-middle.ensures Difference (λ p q made h. h) in
+    let r : length (vec_items c.add_running_totals.new.nodes) ≡ length (vec_items c.add_taps.new.nodes) + m = grown_length _ _ _ m differences.0 in
+    let l : c.len-products.result ≡ length (vec_items c.add_running_totals.new.nodes) = c.len-products.ensures ∙ c.add_running_totals.new.nodes.ok.0 in
     omega arith
 
 pub returns : goal.returns
 returns c =
-    let b = c.args.b.now in
-    let m = length c.args.a.now in
-    let e = later_length b in
-    wired_direct2 (length b - 1) m _ _ (length b) c.len-feedback.result c.in_ok-middle.middle c.len-products.result _ _ (length b + m) c.in_ok-output.output
+    let b = c.args.lists.b.now in
+    let m = length c.args.lists.a.now in
+    let differences = c.in_ok-middle.ensures Difference (λ p q made h. h) in
+    let sums = c.in_ok-output.ensures Sum (λ p q made h. h) in
+    wired_direct2 (length b - 1) m _ _ (length b) c.len-feedback.result c.in_ok-middle.middle c.len-products.result _ _ c.count.result c.in_ok-output.output
     (vec_items c.in_ok-nodes.nodes) _ _ _ _ (vec_items c.new-sources.result) _
-    (c.longer-order.ensures ∙ ap (λ n. max n m) e) e (omega arith) (omega arith)
-    (c.len-feedback.ensures ∙ c.in_ok-nodes.nodes.ok.0) c.add_taps.new.nodes.ok.0 (c.len-products.ensures ∙ c.add_differences.new.nodes.ok.0) c.add_taps-2.new.nodes.ok.0
-    c.in_ok-nodes.ensures c.in_ok-add_taps.ensures c.in_ok-middle.ensures.0 c.in_ok-middle.ensures.1
-    c.in_ok-add_taps-2.ensures c.in_ok-output.ensures.0 c.in_ok-output.ensures.1
+    c.longer-longer.ensures c.later.ensures (omega arith) (omega arith)
+    (c.len-feedback.ensures ∙ c.in_ok-nodes.nodes.ok.0) c.add_taps.new.nodes.ok.0 (c.len-products.ensures ∙ c.add_running_totals.new.nodes.ok.0) c.add_taps-2.new.nodes.ok.0
+    c.in_ok-nodes.ensures c.in_ok-add_taps.ensures differences.0 differences.1
+    c.in_ok-add_taps-2.ensures sums.0 sums.1
     c.new-sources.ensures.items c.in_ok-add_delays.ensures

@@ -1,4 +1,4 @@
-use Rattle.std.proofs.Common.{◌+◌, ltb, [], ◌∷◌, ◌++◌, length, vec_items, vec_len, ap, ◌∙◌}
+use Rattle.std.proofs.Common.{◌+◌, ◌-◌, ltb, [], ◌∷◌, ◌++◌, length, vec_items, vec_len, ap, ◌∙◌}
 use Rattle.forms.specs.Parts.{total_end, end_of}
 use Rattle.forms.proofs.Growing.{listed_more}
 use Rattle.forms.proofs.Ladders.{totals_more, place_more}
@@ -7,8 +7,8 @@ use Rattle.forms.proofs.totals.add_totals.Goals as goal
 pub loop-i-preserved : goal.loop-i-preserved
 loop-i-preserved c =
     let i = c.loop-i.i in
-    let n = length c.args.later.now in
-    let m = length c.args.a.now in
+    let n = length c.args.lists.b.now - 1 in
+    let m = length c.args.lists.a.now in
     let place = vec_len c.args.nodes.now in
     let first = c.args.first in
     let back = c.args.back in

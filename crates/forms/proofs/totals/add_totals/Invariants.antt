@@ -1,10 +1,10 @@
-use Rattle.std.proofs.Common.{◌≡◌, ◌++◌, length, vec_items, vec_len}
+use Rattle.std.proofs.Common.{◌≡◌, ◌-◌, ◌++◌, length, vec_items, vec_len}
 use Rattle.std.specs.List.{range_with_len, flat_map}
 use Rattle.forms.specs.Parts.{listed, totals_of, end_of, total_place}
 use Rattle.forms.proofs.totals.add_totals.Given as goal
 
 abbrev pub invariant-loop-i : goal.invariant-loop-i
 invariant-loop-i l =
-    (vec_items l.nodes ≡ vec_items l.initial.nodes ++ flat_map (totals_of (vec_len l.initial.nodes) l.first l.back (length l.later) (length l.a)) (range_with_len 0 l.i))
-    × (vec_items l.sources ≡ vec_items l.initial.sources ++ listed (end_of (vec_len l.initial.nodes) l.first l.back (length l.later) (length l.a)) l.i)
-    × (vec_len l.nodes ≡ total_place (vec_len l.initial.nodes) l.first l.back (length l.later) (length l.a) l.i)
+    (vec_items l.nodes ≡ vec_items l.initial.nodes ++ flat_map (totals_of (vec_len l.initial.nodes) l.first l.back (length l.lists.b.now - 1) (length l.lists.a.now)) (range_with_len 0 l.i))
+    × (vec_items l.sources ≡ vec_items l.initial.sources ++ listed (end_of (vec_len l.initial.nodes) l.first l.back (length l.lists.b.now - 1) (length l.lists.a.now)) l.i)
+    × (vec_len l.nodes ≡ total_place (vec_len l.initial.nodes) l.first l.back (length l.lists.b.now - 1) (length l.lists.a.now) l.i)
