@@ -4,6 +4,11 @@ use std::process::Abort;
 use std::test::Fail;
 use wiring::graph::Node;
 
+// A coefficient times a node.
+fn scale(node: usize, coefficient: usize) -> Node {
+    Node::Scale { node, coefficient }
+}
+
 // The wiring has just these nodes, this output and these sources.
 fn check_laid(rt: &impl Abort, filter: &Filter, nodes: &[Node], output: usize, sources: &[usize]) {
     assert!(rt; filter.wiring.nodes.as_slice() == nodes);
@@ -41,14 +46,8 @@ fn direct_form_1(rt: HostRuntime) -> Result<(), Fail> {
     let nodes = [
         Node::Input,
         Node::Register(0),
-        Node::Scale {
-            node: 0,
-            coefficient: 0,
-        },
-        Node::Scale {
-            node: 1,
-            coefficient: 1,
-        },
+        scale(0, 0),
+        scale(1, 1),
         Node::Difference(2, 3),
     ];
     check_laid(&rt, &filter, &nodes, 4, &[4]);
@@ -62,19 +61,10 @@ fn direct_form_2(rt: HostRuntime) -> Result<(), Fail> {
     let nodes = [
         Node::Input,
         Node::Register(0),
-        Node::Scale {
-            node: 1,
-            coefficient: 2,
-        },
+        scale(1, 2),
         Node::Difference(0, 2),
-        Node::Scale {
-            node: 3,
-            coefficient: 0,
-        },
-        Node::Scale {
-            node: 1,
-            coefficient: 1,
-        },
+        scale(3, 0),
+        scale(1, 1),
         Node::Sum(4, 5),
     ];
     check_laid(&rt, &filter, &nodes, 6, &[3]);
@@ -90,41 +80,17 @@ fn transposed_form_2(rt: HostRuntime) -> Result<(), Fail> {
         Node::Register(0),
         Node::Register(1),
         Node::Zero,
-        Node::Scale {
-            node: 0,
-            coefficient: 0,
-        },
-        Node::Scale {
-            node: 0,
-            coefficient: 1,
-        },
+        scale(0, 0),
+        scale(0, 1),
         Node::Sum(4, 1),
-        Node::Scale {
-            node: 6,
-            coefficient: 2,
-        },
-        Node::Scale {
-            node: 6,
-            coefficient: 3,
-        },
+        scale(6, 2),
+        scale(6, 3),
         Node::Sum(2, 5),
         Node::Difference(9, 7),
         Node::Difference(3, 8),
     ];
     check_laid(&rt, &filter, &nodes, 6, &[10, 11]);
     let gain = Form::Transposed2.build(heap, &[9], &[])?;
-    check_laid(
-        &rt,
-        &gain,
-        &[
-            Node::Input,
-            Node::Scale {
-                node: 0,
-                coefficient: 0,
-            },
-        ],
-        1,
-        &[],
-    );
+    check_laid(&rt, &gain, &[Node::Input, scale(0, 0)], 1, &[]);
     Ok(())
 }
