@@ -18,7 +18,7 @@ at_below t (suc n) k e h = elim (cases_lt k n) [ inl l ↦ at_below t n k (and_p
 
 none_from : {A : Type 0} (o : Option A) → not (is_some o) ≡ true → o ≡ None
 none_from None e = refl
-none_from (Some a) e = absurd (let z : ◌≡◌ {A = ℕ} 0 1 = cc in omega arith)
+none_from (Some a) e = cc
 
 abbrev passes : Form → ℕ → ℕ → Bool
 passes form i na = not (is_some (wiring_fault (form_graph form (i + 1) na)))

@@ -5,6 +5,11 @@ use Rattle.forms.proofs.totals.add_totals.Given as goal
 
 abbrev pub invariant-loop-i : goal.invariant-loop-i
 invariant-loop-i l =
-    (vec_items l.nodes ≡ vec_items l.initial.nodes ++ flat_map (totals_of (vec_len l.initial.nodes) l.first l.back (length l.lists.b.now - 1) (length l.lists.a.now)) (range_with_len 0 l.i))
-    × (vec_items l.sources ≡ vec_items l.initial.sources ++ listed (end_of (vec_len l.initial.nodes) l.first l.back (length l.lists.b.now - 1) (length l.lists.a.now)) l.i)
-    × (vec_len l.nodes ≡ total_place (vec_len l.initial.nodes) l.first l.back (length l.lists.b.now - 1) (length l.lists.a.now) l.i)
+    let place = vec_len l.initial.nodes in
+    let N = length l.lists.b.now - 1 in
+    let M = length l.lists.a.now in
+    record {
+      nodes : vec_items l.nodes ≡ vec_items l.initial.nodes ++ flat_map (totals_of place l.first l.back N M) (range_with_len 0 l.i);
+      sources : vec_items l.sources ≡ vec_items l.initial.sources ++ listed (end_of place l.first l.back N M) l.i;
+      next : vec_len l.nodes ≡ total_place place l.first l.back N M l.i;
+    }
