@@ -7,19 +7,20 @@ use Rattle.wiring.specs.declared.graph.Node.TheVariants.{Input, Zero, Register, 
 use Rattle.wiring.specs.Graphs.{Graph}
 use Rattle.std.specs.List.{range_with_len, flat_map}
 use Rattle.forms.specs.Parts.{listed, chain, registers, taps, gains, sums, differences, delays, totals_of, end_of}
-use Rattle.forms.specs.Forms.{direct1, direct1_nodes, direct1_output, direct1_products, direct1_totals, direct2, direct2_totals, direct2_products, transposed2, transposed2_gain, transposed2_recursive, transposed2_products, transposed2_output, transposed2_totals}
+use Rattle.forms.specs.Forms.{direct1, direct1_products, direct1_totals, direct2, direct2_totals, direct2_products, transposed2, transposed2_gain, transposed2_recursive, transposed2_products, transposed2_output, transposed2_totals}
 use Rattle.forms.proofs.Growing.{grown_length}
 
 pub start_length : (n : ℕ) (ns : List Node) → ns ≡ Input ∷ registers n → length ns ≡ n + 1
 start_length n ns e = let p = length-map-range_with_len Register 0 n in ap length e ∙ omega arith
 
-pub laid_direct1 : (N M k n nb nc p l3 s l4 o : ℕ) (i1 i2 i3 i4 i5 : List Node)
-    → k ≡ N + M → n ≡ N → nb ≡ N + 1 → nc ≡ N + 2 → p ≡ length i1 → l3 ≡ length i3 → l4 ≡ length i4
+pub wired_direct1 : (N M k n nb nc p l3 s l4 c o : ℕ) (i1 i2 i3 i4 i5 : List Node) (s0 s1 s2 : List ℕ)
+    → k ≡ N + M → n ≡ N → nb ≡ N + 1 → nc ≡ N + 2 → c ≡ N + 1 + M → p ≡ length i1 → l3 ≡ length i3 → l4 ≡ length i4
     → i1 ≡ Input ∷ registers k → i2 ≡ i1 ++ taps 0 1 0 nb → i3 ≡ i2 ++ taps nb nc nb M
     → i4 ≡ i3 ++ sums p l3 (p + 1) n → s ≡ chain p l3 n
     → i5 ≡ i4 ++ differences s l4 (p + nb) M → o ≡ chain s l4 M
-    → (i5 ≡ direct1_nodes N M) × (o ≡ direct1_output N M)
-laid_direct1 N M k n nb nc p l3 s l4 o i1 i2 i3 i4 i5 ek en eb ec ep e3 e4 a1 a2 a3 a4 at5 a5 ao =
+    → s0 ≡ [] → s1 ≡ s0 ++ delays 0 1 n → s2 ≡ s1 ++ delays o nb M
+    → ◌≡◌ {A = Graph} (record { nodes = i5; coefficients = c; output = o; sources = s2 }) (direct1 N M)
+wired_direct1 N M k n nb nc p l3 s l4 c o i1 i2 i3 i4 i5 s0 s1 s2 ek en eb ec et ep e3 e4 a1 a2 a3 a4 at5 a5 ao b0 b1 b2 =
     let q1 = start_length k i1 a1 in
     let q2 = grown_length _ i1 i2 nb a2 in
     let q3 = grown_length _ i2 i3 M a3 in
@@ -27,13 +28,7 @@ laid_direct1 N M k n nb nc p l3 s l4 o i1 i2 i3 i4 i5 ek en eb ec ep e3 e4 a1 a2
     let r1 : p ≡ direct1_products N M = omega arith in
     let r3 : l3 ≡ direct1_totals N M = omega arith in
     let r4 : l4 ≡ direct1_totals N M + N = omega arith in
-    (rw (a5, a4, a3, a2, a1, at5, r4, r3, r1, ec, eb, en, ek) refl, rw (ao, at5, r4, r3, r1, en) refl)
-
-pub wired_direct1 : (N M n nb : ℕ) (nodes : List Node) (s0 s1 : List ℕ) (k o : ℕ) (s2 : List ℕ) → n ≡ N → nb ≡ N + 1 → k ≡ N + 1 + M
-    → nodes ≡ direct1_nodes N M → o ≡ direct1_output N M
-    → s0 ≡ [] → s1 ≡ s0 ++ delays 0 1 n → s2 ≡ s1 ++ delays o nb M
-    → ◌≡◌ {A = Graph} (record { nodes = nodes; coefficients = k; output = o; sources = s2 }) (direct1 N M)
-wired_direct1 N M n nb nodes s0 s1 k o s2 el eb ek en eo e0 e1 e2 = rw (e2, e1, e0, en, eo, ek, eb, el) refl
+    rw (b2, b1, b0, ao, a5, a4, a3, a2, a1, at5, r4, r3, r1, et, ec, eb, en, ek) refl
 
 pub wired_direct2 : (N M k n nb f m p l2 l4 c o : ℕ) (i1 i2 i3 i4 i5 : List Node) (s0 s1 : List ℕ)
     → k ≡ max N M → n ≡ N → nb ≡ N + 1 → c ≡ N + 1 + M → f ≡ length i1 → l2 ≡ length i2 → p ≡ length i3 → l4 ≡ length i4
@@ -54,18 +49,6 @@ wired_direct2 N M k n nb f m p l2 l4 c o i1 i2 i3 i4 i5 s0 s1 ek en eb ec ef e2 
     let r4 : l4 ≡ direct2_products N M + (N + 1) = omega arith in
     rw (b1, b0, ao, a5, a4, a3, a2, a1, am, r4, rp, r2, rf, ec, eb, en, ek) refl
 
--- the numbers of the nodes that the totals start from
-pub ladder_places : (N M k nb : ℕ) (i1 i2 i3 i4 i5 : List Node) (p : ℕ)
-    → k ≡ max N M → nb ≡ N + 1 → i1 ≡ Input ∷ registers k → i2 ≡ i1 ++ Zero ∷ [] → i3 ≡ i2 ++ gains 0 0 nb → i4 ≡ i3 ++ Sum p 1 ∷ [] → i5 ≡ i4 ++ gains (length i3) nb M
-    → (length i2 ≡ transposed2_products N M) × (length i3 ≡ transposed2_output N M) × (length i5 ≡ transposed2_totals N M)
-ladder_places N M k nb i1 i2 i3 i4 i5 p ek eb a1 a2 a3 a4 a5 =
-    let q1 = start_length k i1 a1 in
-    let q2 : length i2 ≡ length i1 + 1 = ap length a2 ∙ length_push i1 Zero in
-    let q3 = grown_length _ i2 i3 nb a3 in
-    let q4 : length i4 ≡ length i3 + 1 = ap length a4 ∙ length_push i3 (Sum p 1) in
-    let q5 = grown_length _ i4 i5 M a5 in
-    (omega arith, omega arith, omega arith)
-
 pub wired_transposed2 : (N M k nb p o l5 c : ℕ) (i1 i2 i3 i4 i5 i6 : List Node) (s0 s1 : List ℕ)
     → k ≡ max N M → nb ≡ N + 1 → c ≡ N + 1 + M → p ≡ length i2 → o ≡ length i3 → l5 ≡ length i5 → eqb k 0 ≡ false
     → i1 ≡ Input ∷ registers k → i2 ≡ i1 ++ Zero ∷ [] → i3 ≡ i2 ++ gains 0 0 nb → i4 ≡ i3 ++ Sum p 1 ∷ [] → i5 ≡ i4 ++ gains o nb M
@@ -73,9 +56,13 @@ pub wired_transposed2 : (N M k nb p o l5 c : ℕ) (i1 i2 i3 i4 i5 i6 : List Node
     → s0 ≡ [] → s1 ≡ s0 ++ listed (end_of l5 (p + 1) (o + 1) N M) (max N M)
     → ◌≡◌ {A = Graph} (record { nodes = i6; coefficients = c; output = o; sources = s1 }) (transposed2 N M)
 wired_transposed2 N M k nb p o l5 c i1 i2 i3 i4 i5 i6 s0 s1 ek eb ec ep eo e5 some a1 a2 a3 a4 a5 a6 b0 b1 =
-    let q = ladder_places N M k nb i1 i2 i3 i4 i5 p ek eb a1 a2 a3 a4 (a5 ∙ ap (λ x. i4 ++ gains x nb M) eo) in
-    let rp : p ≡ transposed2_products N M = ep ∙ q.0 in
-    let ro : o ≡ transposed2_output N M = eo ∙ q.1 in
-    let r5 : l5 ≡ transposed2_totals N M = e5 ∙ q.2 in
+    let q1 = start_length k i1 a1 in
+    let q2 : length i2 ≡ length i1 + 1 = ap length a2 ∙ length_push i1 Zero in
+    let q3 = grown_length _ i2 i3 nb a3 in
+    let q4 : length i4 ≡ length i3 + 1 = ap length a4 ∙ length_push i3 (Sum p 1) in
+    let q5 = grown_length _ i4 i5 M a5 in
+    let rp : p ≡ transposed2_products N M = omega arith in
+    let ro : o ≡ transposed2_output N M = omega arith in
+    let r5 : l5 ≡ transposed2_totals N M = omega arith in
     let t : eqb (max N M) 0 ≡ false = ap (λ x. eqb x 0) (sym ek) ∙ some in
     rw (b1, b0, a6, a5, a4, a3, a2, a1, r5, ro, rp, ec, eb, ek) (sym (ap (λ z. cond z transposed2_gain (transposed2_recursive N M)) t))

@@ -8,6 +8,7 @@ use std::alloc::{AllocError, Global};
 use wiring::graph::{Node, Wiring};
 
 // Direct form 1: the registers hold delayed inputs, then delayed outputs.
+#[tactic(auto, using(crate::proofs::Layouts::start_length))]
 pub(crate) fn direct1(heap: Global, lists: Coefficients) -> Result<Wiring, AllocError>
     ensures { IfOk result (λ w. graph_of w ≡ direct1_graph (length lists.entry.b.now - 1) (length lists.entry.a.now)) }
 {

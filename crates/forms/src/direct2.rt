@@ -8,6 +8,7 @@ use std::alloc::{AllocError, Global};
 use wiring::graph::{Node, Wiring};
 
 // Direct form 2: one delay line, from which both the feedback and the output are taken.
+#[tactic(auto, using(crate::proofs::Layouts::start_length))]
 pub(crate) fn direct2(heap: Global, lists: Coefficients) -> Result<Wiring, AllocError>
     ensures { IfOk result (λ w. graph_of w ≡ direct2_graph (length lists.entry.b.now - 1) (length lists.entry.a.now)) }
 {

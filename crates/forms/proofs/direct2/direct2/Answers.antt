@@ -1,20 +1,14 @@
-use Rattle.std.proofs.Common.{◌≡◌, ◌+◌, ◌-◌, length, vec_items, ◌∙◌, arith}
+use Rattle.std.proofs.Common.{◌-◌, length, vec_items, ◌∙◌, arith}
 use Rattle.wiring.specs.declared.graph.Node.TheVariants.{Sum, Difference}
 use Rattle.forms.proofs.Growing.{grown_length}
 use Rattle.forms.proofs.Layouts.{start_length, wired_direct2}
 use Rattle.forms.proofs.direct2.direct2.Goals as goal
 
-pub add_running_totals-requires-clause-numbers : goal.add_running_totals-requires-clause-numbers
-add_running_totals-requires-clause-numbers c = let p = start_length _ _ c.in_ok-nodes.ensures in omega arith
-
 pub add_running_totals-requires-2-clause-numbers : goal.add_running_totals-requires-2-clause-numbers
 add_running_totals-requires-2-clause-numbers c =
-    let p = start_length _ _ c.in_ok-nodes.ensures in
-    let m = length c.args.lists.a.now in
-    let q : length (vec_items c.add_taps.new.nodes) ≡ length (vec_items c.in_ok-nodes.nodes) + m = grown_length _ _ _ m c.in_ok-add_taps.ensures in
-    let differences = c.in_ok-middle.ensures Difference (λ p q made h. h) in
-    let r : length (vec_items c.add_running_totals.new.nodes) ≡ length (vec_items c.add_taps.new.nodes) + m = grown_length _ _ _ m differences.0 in
-    let l : c.len-products.result ≡ length (vec_items c.add_running_totals.new.nodes) = c.len-products.ensures ∙ c.add_running_totals.new.nodes.ok.0 in
+    let nodes = start_length _ _ c.in_ok-nodes.ensures in
+    let taps = grown_length _ _ (vec_items c.add_taps.new.nodes) (length c.args.lists.a.now) c.in_ok-add_taps.ensures in
+    let differences = grown_length _ _ (vec_items c.add_running_totals.new.nodes) (length c.args.lists.a.now) (c.in_ok-middle.ensures Difference (λ p q made h. h)).0 in
     omega arith
 
 pub returns : goal.returns
