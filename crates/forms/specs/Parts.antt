@@ -8,7 +8,10 @@ use Rattle.wiring.specs.declared.graph.Node.TheVariants.{Register, Scale, Sum, D
 abbrev pub listed : {A : Type 0} → (ℕ → A) → ℕ → List A
 listed f n = map f (range_with_len 0 n)
 
--- below n, f is what the calls give
+-- f is what the calls give, at each argument, or at each below n
+abbrev pub Gives : {A : Type 0} → (ℕ → ℕ → A → Type 0) → (ℕ → ℕ → A) → Type 0
+Gives gives f = (p q : ℕ) (x : _) → gives p q x → x ≡ f p q
+
 abbrev pub GivesBelow : {A : Type 0} → ℕ → (ℕ → A → Type 0) → (ℕ → A) → Type 0
 GivesBelow n gives f = (i : ℕ) (x : _) → i < n → gives i x → x ≡ f i
 

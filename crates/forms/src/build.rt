@@ -1,4 +1,4 @@
-ghost use Rattle.std.specs.Prelude.{◌≡◌, ◌++◌, IfOk};
+ghost use Rattle.std.specs.Prelude.{◌≡◌};
 ghost use Rattle.forms.specs.Built.{BuildAnswer, SoundFilter, EquationKept};
 
 use crate::coefficients::Coefficients;
@@ -6,17 +6,7 @@ use crate::direct1::direct1;
 use crate::direct2::direct2;
 use crate::form::{Filter, Form, FormFault, MAX_DENOMINATOR, MAX_NUMERATOR};
 use crate::transposed2::transposed2;
-use std::alloc::{AllocError, Global};
-
-// One list behind the other.
-fn joined(heap: Global, b: &[i32], a: &[i32]) -> Result<Vec<i32>, AllocError>
-    ensures { IfOk result (λ v. v.items ≡ b.now ++ a.now) }
-{
-    let mut all = Vec::new(heap);
-    all.extend_from_slice(b)?;
-    all.extend_from_slice(a)?;
-    Ok(all)
-}
+use std::alloc::Global;
 
 impl Form {
     // The filter with coefficients b0 and on, and a1 and on, in this form.
@@ -25,7 +15,7 @@ impl Form {
         ensures sound { SoundFilter result }
         ensures equation { EquationKept b.now a.now result }
     {
-        if b.len() < 1 || b.len() > MAX_NUMERATOR {
+        if b.is_empty() || b.len() > MAX_NUMERATOR {
             return Err(FormFault::Numerator);
         }
         if a.len() > MAX_DENOMINATOR {
@@ -37,7 +27,7 @@ impl Form {
             Form::Direct2 => direct2(heap, lists)?,
             Form::Transposed2 => transposed2(heap, lists)?,
         };
-        let coefficients = joined(heap, b, a)?;
+        let coefficients = [b, a].concat(heap)?;
         Ok(Filter {
             wiring,
             coefficients,

@@ -1,7 +1,7 @@
 ghost use Rattle.std.specs.Prelude.{◌≡◌, ℕ, ◌+◌, ◌^◌, ◌<◌, ◌∷◌, ◌++◌, length, IfOk, vec_len, OnOk};
 ghost use Rattle.wiring.specs.declared.graph.Node.{Node as NodeValue};
 ghost use Rattle.wiring.specs.declared.graph.Node.TheVariants.{Input};
-ghost use Rattle.forms.specs.Parts.{listed, GivesBelow, chain as node_of_chain, registers as register_nodes, chained, taps, gains, delays};
+ghost use Rattle.forms.specs.Parts.{listed, GivesBelow, Gives, chain as node_of_chain, registers as register_nodes, chained, taps, gains, delays};
 
 use std::alloc::{AllocError, Global};
 use wiring::graph::Node;
@@ -116,7 +116,7 @@ pub(crate) fn add_running_totals<F: Fn(usize, usize) -> Node>(
 ) -> Result<usize, AllocError>
     requires numbers { first + length coefficients.now < 2 ^ 32 }
     requires makes { F.IsAlwaysCallable make }
-    ensures { (op : ℕ → ℕ → NodeValue) → ((p q : ℕ) (made : NodeValue) → F.post make p q made → made ≡ op p q) → IfOk result (λ total. (nodes.new.items ≡ nodes.old.items ++ chained op start (vec_len nodes.old) first (length coefficients.now)) × (total ≡ node_of_chain start (vec_len nodes.old) (length coefficients.now))) }
+    ensures { (op : ℕ → ℕ → NodeValue) → Gives (F.post make) op → IfOk result (λ total. (nodes.new.items ≡ nodes.old.items ++ chained op start (vec_len nodes.old) first (length coefficients.now)) × (total ≡ node_of_chain start (vec_len nodes.old) (length coefficients.now))) }
 {
     let totals = Chain {
         from: start,

@@ -1,5 +1,6 @@
-use Rattle.std.proofs.Common.{◌≡◌, true, leb, ◌++◌, length, vec_items, sym, ap, ◌∙◌, subst₂, rules}
+use Rattle.std.proofs.Common.{◌≡◌, true, leb, ◌++◌, length, vec_items, sym, ap, ◌∙◌, subst₂, rules, append-nil}
 use Rattle.std.proofs.lemmas.Bool.{and_parts, leb-true}
+use Rattle.std.specs.List.{each_same}
 use Rattle.wiring.specs.Checks.{wiring_fault}
 use Rattle.wiring.specs.Graphs.{graph_of}
 use Rattle.forms.specs.Forms.{form_graph}
@@ -16,7 +17,7 @@ returns c =
     let b : numerator_good nb ≡ true = search rules in
     let a : denominator_good na ≡ true = search rules in
     let g : graph_of c.match-self.wiring ≡ form_graph c.args.self nb na = search rules in
-    let cs : vec_items c.in_ok-coefficients.coefficients ≡ c.args.b.now ++ c.args.a.now = search rules in
+    let cs : vec_items c.in_ok-coefficients.coefficients ≡ c.args.b.now ++ c.args.a.now = each_same _ _ c.in_ok-coefficients.ensures.ok ∙ ap (λ l. c.args.b.now ++ l) (append-nil c.args.a.now) in
     let some = leb-true 1 nb (and_parts (leb 1 nb) (leb nb 9) b).0 in
     record {
       answer = (b, a, g, cs);
