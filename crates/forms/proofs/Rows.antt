@@ -15,7 +15,7 @@ use Rattle.wiring.specs.declared.graph.Node.TheVariants.{Input, Register, Scale,
 use Rattle.wiring.specs.declared.faults.RunFault.{RunFault}
 use Rattle.wiring.specs.Graphs.{Graph}
 use Rattle.wiring.specs.Runs.{onward, at_node, node_value, work, taken, run}
-use Rattle.forms.specs.Parts.{listed, chain, registers, sums, differences}
+use Rattle.forms.specs.Parts.{listed, chain, chained, registers, sums, differences}
 use Rattle.forms.specs.Equation.{zero_exact, weighted}
 use Rattle.forms.proofs.Weighted.{push, running, push_running, products, running_sum, running_less}
 
@@ -174,7 +174,7 @@ module _ (s : FixedArithmetic) (cs : List ℤ) (rs : List Exact) (u : ℤ) where
   -- by an operation f of two nodes
   totals_laid : (op : ℕ → ℕ → Node) (f : Exact → Exact → Exact) → ((ws : List Exact) (p q : ℕ) → value_of ws (op p q) ≡ Ok (f (get_or ws p zero_exact) (get_or ws q zero_exact)))
       → (vs : List Exact) (start place first n : ℕ) (z : Exact) (x : ℕ → Exact) → place ≡ length vs → Reads vs start z → Row vs first x n
-      → Totalled vs (listed (λ i. op (chain start place i) (first + i)) n) n (chain start place n) (running f z x n)
+      → Totalled vs (chained op start place first n) n (chain start place n) (running f z x n)
   totals_laid op f is vs start place first n z x ep r row = record {
     after = t.after;
     worked = t.worked;
@@ -186,7 +186,7 @@ module _ (s : FixedArithmetic) (cs : List ℤ) (rs : List Exact) (u : ℤ) where
       at : (ws : List Exact) (i : ℕ) → Extends vs i (λ i. running f z x (suc i)) ws → Reads ws (chain start place i) (running f z x i)
       at ws i t = valued ws _ _ _ (push_running f z x i) (along ws start place i z (λ i. running f z x (suc i)) (t.keeps _ _ r) (rw ep t.row) i (omega arith))
 
-      t : Laid vs (listed (λ i. op (chain start place i) (first + i)) n) n (λ i. running f z x (suc i))
+      t : Laid vs (chained op start place first n) n (λ i. running f z x (suc i))
       t = row_laid vs (λ i. op (chain start place i) (first + i)) (λ i. running f z x (suc i)) n
           (λ i l ws t. is ws (chain start place i) (first + i) ∙ ap₂ (λ p q. Ok (f p q)) (at ws i t).value (t.keeps _ _ (row i l)).value)
 

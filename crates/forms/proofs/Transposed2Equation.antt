@@ -27,8 +27,7 @@ module _ (s : FixedArithmetic) (cs : List ℤ) (rs : List Exact) (u : ℤ) where
       go (maybe_totalled s cs rs u more vs (Sum start p) start x (x ⊞ y) r (λ h. ap₂ (λ a b. Ok (a ⊞ b)) r.value (rp h).value))
     where
       long : (t : Bool) (n : ℕ) → n ≡ length vs + cond t 1 0 → n ≡ cond t (place + 1) place
-      long true n d = omega arith
-      long false n d = omega arith
+      long t n d = grind arith
 
       go : Totalled s cs rs u vs (cond more (Sum start p ∷ []) []) (cond more 1 0) (cond more (length vs) start) (cond more (x ⊞ y) x)
           → Totalled s cs rs u vs (total_nodes more less start place p q) (cond more 1 0 + cond less 1 0) (total_end more less start place) (x ⊞ cond more y zero_exact ⊟ cond less z zero_exact)
