@@ -3,7 +3,7 @@ use Rattle.std.specs.Prelude.{◌≡◌, ℕ, Bool, true, false, ◌&&◌, List,
 use Rattle.wiring.specs.Checks.{wiring_fault}
 use Rattle.wiring.specs.Graphs.{graph_of}
 use Rattle.forms.specs.declared.form.Form.{Form}
-use Rattle.forms.specs.declared.form.Filter.{Filter}
+use Rattle.wiring.specs.declared.graph.Filter.{Filter}
 use Rattle.forms.specs.declared.form.FormFault.{FormFault}
 use Rattle.forms.specs.declared.form.FormFault.TheVariants.{Numerator, Denominator, Memory}
 use Rattle.forms.specs.Forms.{form_graph}

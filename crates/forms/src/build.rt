@@ -4,12 +4,13 @@ ghost use Rattle.forms.specs.Built.{BuildAnswer, SoundFilter, EquationKept};
 use crate::coefficients::Coefficients;
 use crate::direct1::direct1;
 use crate::direct2::direct2;
-use crate::form::{Filter, Form, FormFault, MAX_DENOMINATOR, MAX_NUMERATOR};
+use crate::form::{Form, FormFault, MAX_DENOMINATOR, MAX_NUMERATOR};
 use crate::transposed2::transposed2;
 use std::alloc::Global;
+use wiring::graph::Filter;
 
 impl Form {
-    // The filter with coefficients b0 and on, and a1 and on, in this form.
+    // The filter in this form; its coefficients are b0 and on, then a1 and on.
     pub fn build(self, heap: Global, b: &[i32], a: &[i32]) -> Result<Filter, FormFault>
         ensures answer { BuildAnswer self b.now a.now result }
         ensures sound { SoundFilter result }

@@ -3,7 +3,6 @@ ghost use Rattle.forms.specs.Built.{form_number};
 ghost use Rattle.forms.specs.declared.form.FormFault.TheVariants.{Memory};
 
 use std::alloc::AllocError;
-use wiring::graph::Wiring;
 
 // The most coefficients that a filter may have: b0 to b8, and a1 to a8.
 pub const MAX_NUMERATOR: usize = 9;
@@ -19,13 +18,6 @@ pub enum Form {
     Direct2,
     // Direct form 2 turned around: each register takes a total.
     Transposed2,
-}
-
-// A wiring with the coefficients that it was built for: b0 and on, then a1 and on.
-#[derive(Drop)]
-pub struct Filter {
-    pub wiring: Wiring,
-    pub coefficients: Vec<i32>,
 }
 
 // Why no filter was built.

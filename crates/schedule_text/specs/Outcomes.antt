@@ -8,7 +8,7 @@ use Rattle.kinds.specs.declared.refusal.Refusal.{Refusal}
 use Rattle.kinds.specs.Arithmetics.{number}
 use Rattle.wiring.specs.Graphs.{Graph, graph_of}
 use Rattle.forms.specs.declared.form.Form.{Form}
-use Rattle.forms.specs.declared.form.Filter.{Filter}
+use Rattle.wiring.specs.declared.graph.Filter.{Filter}
 use Rattle.forms.specs.Forms.{form_graph}
 use Rattle.sheet.specs.declared.figures.Figures.{Figures}
 use Rattle.sheet.specs.declared.figures.SheetFault.{SheetFault}
