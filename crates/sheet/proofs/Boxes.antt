@@ -210,7 +210,7 @@ module _ (s : FixedArithmetic) (law : Lawful s) (g : Graph) (cs : List ℤ) wher
   pub peaks_go : (box : List Bound) (r : Worked Bound) → round s g cs 0 box ≡ Ok r → (q : Worked ℕ) × (quiet_round s g cs (peaks_of box) ≡ Ok q) × (peaks_of r.registers ≡ q.registers) × (r.output.peak ≡ q.output)
   peaks_go box r e =
       let t = simulation₂ (bound_arithmetic s) (peak_arithmetic s) HasPeak (pos 0) (pos 0) (peak_simulates s law (pos 0)) g cs box (peaks_of box) (each_map_self (λ (b : Bound). b.peak) box) r e in
-      (t.left, t.left_is, each_mapped (λ (b : Bound). b.peak) t.related.registers, t.related.output)
+      (t.left, t.left_is, each_mapped (λ (b : Bound). b.peak) (λ a b e. e) t.related.registers, t.related.output)
 
   pub sunk_none : (box : List Bound) → Sunk s g cs box 0 box
   sunk_none box = ((λ m band top f. let e : m ≡ 0 + m = omega arith in subst (λ z. Falls s g cs (peaks_of box) z band top) e f), omega arith)

@@ -1,5 +1,5 @@
 -- From the verdict under one checked setting to the answer of the call.
-use Rattle.std.proofs.Common.{◌≡◌, ℕ, ◌+◌, ◌≤◌, List, length, ℤ, nat_abs, None, Ok, Err, Option, Result, sym, ◌∙◌, subst}
+use Rattle.std.proofs.Common.{◌≡◌, ℕ, ◌+◌, ◌≤◌, List, length, Bool, true, false, ℤ, nat_abs, Some, None, Ok, Err, Option, Result, sym, refl, ◌∙◌, subst, arith}
 use mathlib.Core.HLevel.{is_prop→PathP}
 use native.Mathlib.Bridge.{le_prop}
 use Rattle.std.specs.Option.{option_map}
@@ -12,7 +12,9 @@ use Rattle.arithmetic.specs.Overflow.{OverflowRule}
 use Rattle.arithmetic.specs.Settings.{meaning, SettingAnswer}
 use Rattle.wiring.specs.declared.faults.ProgramFault.TheVariants.{Wiring}
 use Rattle.wiring.specs.Graphs.{Graph}
-use Rattle.wiring.specs.Checks.{first, wiring_fault}
+use Rattle.kinds.specs.declared.refusal.Refusal.{Refusal}
+use Rattle.wiring.specs.Checks.{unless, first, wiring_fault}
+use Rattle.wiring.specs.Runs.{or_fault}
 use Rattle.wiring.specs.Programs.{list_fault, program_fault}
 use Rattle.sheet.specs.declared.figures.Figures.{Figures}
 use Rattle.sheet.specs.declared.figures.SheetFault.{SheetFault}
@@ -50,6 +52,33 @@ module _ (k l : ℕ) (g : Graph) (cs : List ℤ) (lent : Rows) (x : ℤ) (f : Fo
       let b' : first (option_map Wiring (wiring_fault g)) (list_fault (k + l) g.coefficients cs) ≡ None = subst (λ w. first (option_map Wiring (wiring_fault g)) (list_fault w g.coefficients cs) ≡ None) as_width b in
       let c' : call_fault (k + l) (length g.sources) (length lent.peaks) (length lent.ceilings) (length lent.band) x ≡ o = subst (λ w. call_fault w (length g.sources) (length lent.peaks) (length lent.ceilings) (length lent.band) x ≡ o) as_width c in
       (λ i. first (option_map OfFormat (a i)) (first (option_map Program (b' i)) (call_fault (k + l) (length g.sources) (length lent.peaks) (length lent.ceilings) (length lent.band) x))) ∙ c'
+
+-- ---- what the check of a call answers
+pub or_none : {A E : Type 0} (o : Option E) (a b : A) → Ok a ≡ or_fault o (Ok b) → o ≡ None
+or_none None a b e = refl
+or_none (Some f) a b e = absurd (let z : ◌≡◌ {A = ℕ} 0 1 = cc in omega arith)
+
+pub or_some : {A E : Type 0} (o : Option E) (f : E) (b : A) → Err f ≡ or_fault o (Ok b) → o ≡ Some f
+or_some None f b e = absurd (let z : ◌≡◌ {A = ℕ} 0 1 = cc in omega arith)
+or_some (Some d) f b e = cc
+
+-- it names no node
+no_node : (p q r s : Bool) (k : ℕ) (e : Refusal) → first (unless p PeaksRow) (first (unless q CeilingsRow) (first (unless r BandRow) (unless s Range))) ≡ Some (Node k e) → ⊥
+no_node false q r s k e h = let z : ◌≡◌ {A = ℕ} 0 1 = cc in omega arith
+no_node true false r s k e h = let z : ◌≡◌ {A = ℕ} 0 1 = cc in omega arith
+no_node true true false s k e h = let z : ◌≡◌ {A = ℕ} 0 1 = cc in omega arith
+no_node true true true false k e h = let z : ◌≡◌ {A = ℕ} 0 1 = cc in omega arith
+no_node true true true true k e h = let z : ◌≡◌ {A = ℕ} 0 1 = cc in omega arith
+
+pub refuses : {R O : Type 0} (r : R → RoundingRule) (o : O → OverflowRule) (st : Setting R O) (g : Graph) (cs : List ℤ) (x : ℤ) (lent : Rows) (w n a b d : ℕ) (f : SheetFault)
+    → call_fault w n a b d x ≡ Some f → sheet_check st.whole st.fraction g cs lent x ≡ Some f → SheetAnswer r o st g cs x lent lent (Err f)
+refuses r o st g cs x lent w n a b d (Node k e) h c = absurd (no_node _ _ _ _ k e h)
+refuses r o st g cs x lent w n a b d (OfFormat f) h c = (c, refl)
+refuses r o st g cs x lent w n a b d (Program f) h c = (c, refl)
+refuses r o st g cs x lent w n a b d PeaksRow h c = (c, refl)
+refuses r o st g cs x lent w n a b d CeilingsRow h c = (c, refl)
+refuses r o st g cs x lent w n a b d BandRow h c = (c, refl)
+refuses r o st g cs x lent w n a b d Range h c = (c, refl)
 
 -- ---- the rounds decide
 module _ {R O : Type 0} (r : R → RoundingRule) (o : O → OverflowRule) (st : Setting R O) (g : Graph) (cs : List ℤ) (x : ℤ) (before after : Rows) (p : FixedPoint R O) (checked : SettingAnswer st (Ok p))

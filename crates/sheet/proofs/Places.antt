@@ -1,5 +1,6 @@
 -- Lists place by place, and their sums.
-use Rattle.std.proofs.Common.{◌≡◌, ℕ, zero, suc, ◌+◌, ◌*◌, ◌<◌, ◌≤◌, List, [], ◌∷◌, map, length, get_or, refl, ap, ◌∙◌, mul-one, mul-add, arith}
+use Rattle.std.proofs.Common.{◌≡◌, ℕ, zero, suc, ◌+◌, ◌*◌, ◌<◌, ◌≤◌, List, [], ◌∷◌, ◌++◌, map, length, get_or, refl, ap, ◌∙◌, subst, inl, inr, mul-one, mul-add, arith}
+use Rattle.std.proofs.lemmas.Bool.{cases_lt}
 use Rattle.wiring.specs.Lists.{Each₂, none₂, more₂, All, all_none, all_more}
 
 pub each_length : {A B : Type 0} {R : A → B → Type 0} {xs : List A} {ys : List B} → Each₂ R xs ys → length xs ≡ length ys
@@ -14,6 +15,18 @@ pub each_flip : {A B : Type 0} {R : A → B → Type 0} {xs : List A} {ys : List
 each_flip none₂ = none₂
 each_flip (more₂ h hs) = more₂ h (each_flip hs)
 
+-- what holds below n and at n
+pub below_more : (P : ℕ → Type 0) (n : ℕ) → ((k : ℕ) → k < n → P k) → P n → (k : ℕ) → k < n + 1 → P k
+below_more P n f p k h = elim (cases_lt k n) [
+  | inl low ↦ f k low
+  | inr high ↦ subst P (let e : n ≡ k = omega arith in e) p
+]
+
+-- one more place
+pub each_more : {A B : Type 0} {R : A → B → Type 0} {xs : List A} {ys : List B} {x : A} {y : B} → Each₂ R xs ys → R x y → Each₂ R (xs ++ x ∷ []) (ys ++ y ∷ [])
+each_more none₂ r = more₂ r none₂
+each_more (more₂ h hs) r = more₂ h (each_more hs r)
+
 -- one relation after another
 pub each_then : {A B C : Type 0} {R : A → B → Type 0} {S : B → C → Type 0} {T : A → C → Type 0} {xs : List A} {ys : List B} {zs : List C}
     → ((a : A) (b : B) (c : C) → R a b → S b c → T a c) → Each₂ R xs ys → Each₂ S ys zs → Each₂ T xs zs
@@ -27,9 +40,9 @@ each_map f g h none₂ = none₂
 each_map f g h (more₂ k ks) = more₂ (h _ _ k) (each_map f g h ks)
 
 -- the right list is the left one through a function
-pub each_mapped : {A B : Type 0} (f : A → B) {xs : List A} {ys : List B} → Each₂ (λ a b. f a ≡ b) xs ys → map f xs ≡ ys
-each_mapped f none₂ = refl
-each_mapped f (more₂ {b = b} {xs = xs} h hs) = ap (λ y. y ∷ map f xs) h ∙ ap (λ zs. b ∷ zs) (each_mapped f hs)
+pub each_mapped : {A B : Type 0} {R : A → B → Type 0} (f : A → B) {xs : List A} {ys : List B} → ((a : A) (b : B) → R a b → f a ≡ b) → Each₂ R xs ys → map f xs ≡ ys
+each_mapped f h none₂ = refl
+each_mapped f h (more₂ {b = b} {xs = xs} r rs) = ap (λ y. y ∷ map f xs) (h _ _ r) ∙ ap (λ zs. b ∷ zs) (each_mapped f h rs)
 
 pub each_map_self : {A B : Type 0} (f : A → B) (xs : List A) → Each₂ (λ a b. f a ≡ b) xs (map f xs)
 each_map_self f [] = none₂

@@ -1,5 +1,5 @@
 -- From the rounds to the verdict of a call.
-use Rattle.std.proofs.Common.{◌≡◌, ℕ, ◌-◌, ◌<◌, ◌≤◌, Bool, true, T, leb, List, length, get_or, take, ℤ, pos, nat_abs, None, Ok, ap, ◌∙◌, arith, leb-true}
+use Rattle.std.proofs.Common.{◌≡◌, ℕ, ◌-◌, ◌<◌, ◌≤◌, Bool, true, T, leb, List, length, get_or, map, take, ℤ, pos, nat_abs, None, Ok, sym, ap, ◌∙◌, arith, leb-true}
 use native.Mathlib.Nat.{sub-zero}
 use borrow.Author.Differences.{ints}
 use lib.Signed.{le_z_yes, lt_z_yes}
@@ -8,11 +8,14 @@ use Rattle.arithmetic.specs.Words.{half}
 use Rattle.arithmetic.specs.Settings.{FixedArithmetic, bits}
 use Rattle.kinds.specs.declared.values.Bound.{Bound}
 use Rattle.wiring.specs.Graphs.{Graph}
+use Rattle.wiring.specs.Lists.{Each₂}
 use Rattle.wiring.specs.Checks.{unless}
 use Rattle.wiring.proofs.Soundness.{first_none, unless_none, and_out}
 use Rattle.sheet.specs.declared.figures.SheetFault.TheVariants.{PeaksRow, CeilingsRow, BandRow}
-use Rattle.sheet.specs.Searching.{none, over, box_in, peaks_of, ceilings_of, Least, FallsTo}
+use Rattle.sheet.specs.Sheets.{Falls}
+use Rattle.sheet.specs.Searching.{none, over, box_in, peaks_of, ceilings_of, Least}
 use Rattle.sheet.specs.Calls.{rows, in_range, call_fault, Verdict}
+use Rattle.sheet.proofs.Places.{each_mapped}
 
 of_true : (b : Bool) → b ≡ true → T b
 of_true b e = rw e tt
@@ -45,7 +48,7 @@ pub read_at : (ws : List Bound) (o out : ℕ) (x : Bound) → o ≡ out → out 
 read_at ws o out x e h = ap (λ k. get_or ws k x) e ∙ get_or_default ws out x none h
 
 module _ (s : FixedArithmetic) (g : Graph) (cs : List ℤ) (X : ℕ) (row row' working working' : List Bound) (n : ℕ) where
-  pub granted_verdict : X ≤ half (bits s) - 1 → Least s g cs X (box_in g row) (get_or working g.output none) → FallsTo s g cs row n row' working'
+  pub granted_verdict : X ≤ half (bits s) - 1 → Least s g cs X (box_in g row) (get_or working g.output none) → Falls s g cs (peaks_of (box_in g row)) n (peaks_of (box_in g row')) (get_or working' g.output none).peak
       → (p c b p' c' b' : List ℕ) → p' ≡ over (peaks_of (box_in g row)) p → c' ≡ over (ceilings_of (box_in g row)) c → b' ≡ over (peaks_of (box_in g row')) b
       → (top last : Bound) → top ≡ get_or working g.output none → last ≡ get_or working' g.output none
       → Verdict s g cs X (rows p c b) (rows p' c' b') (Ok (record { peak = top.peak; ceiling = top.ceiling; count = n; band = last.peak }))
@@ -58,3 +61,8 @@ module _ (s : FixedArithmetic) (g : Graph) (cs : List ℤ) (X : ℕ) (row row' w
 
 pub cut_is : {V : Type 0} (n m : ℕ) (xs : List V) → n ≡ m → take (n - 0) xs ≡ take m xs
 cut_is n m xs e = ap (λ k. take k xs) (sub-zero n ∙ e)
+
+-- a part of each entry of a box, written to a row
+pub parts_are : {T : Type 0} {R : Bound → T → Type 0} (f : Bound → T) (n m : ℕ) (row : List Bound) (lent now : List T) → ((b : Bound) (v : T) → R b v → f b ≡ v) → n ≡ m
+    → (ys : List T) × Each₂ R (take (n - 0) row) ys × (now ≡ over ys lent) → now ≡ over (map f (take m row)) lent
+parts_are f n m row lent now h e t = t.2 ∙ ap (λ l. over l lent) (sym (each_mapped f h t.1)) ∙ ap (λ l. over (map f l) lent) (cut_is n m row e)

@@ -1,3 +1,4 @@
+pub mod Rooms
 pub mod Rounds
 pub mod Sheets
 pub mod Searching

@@ -1,16 +1,20 @@
 -- What the steps of the search for a closed box answer and leave. A row holds a box in its first places, one for each register.
-use Rattle.std.specs.Prelude.{◌≡◌, ℕ, ◌<◌, ◌≤◌, ◌⊎◌, List, ◌++◌, map, length, get_or, take, drop, ℤ, Ok, Err, vec_items, Result, slice_index_or}
-use Rattle.arithmetic.specs.Settings.{FixedArithmetic}
+use Rattle.std.specs.Prelude.{◌≡◌, ℕ, ◌<◌, ◌≤◌, ◌⊎◌, List, ◌++◌, map, length, get_or, take, drop, ℤ, Ok, Err, vec_items, Result, slice_index, slice_index_or}
+use Rattle.arithmetic.specs.Rounding.{RoundingRule}
+use Rattle.arithmetic.specs.Overflow.{OverflowRule}
+use Rattle.arithmetic.specs.Settings.{FixedArithmetic, meaning}
 use Rattle.kinds.specs.declared.refusal.Refusal.{Refusal}
 use Rattle.kinds.specs.declared.values.Bound.{Bound}
-use Rattle.kinds.specs.Bounds.{bound_of, bound_arithmetic}
+use Rattle.kinds.specs.Bounds.{bound_of, bound_arithmetic, peak_limit}
 use Rattle.wiring.specs.declared.faults.RunFault.TheVariants.{Node as OfRun}
 use Rattle.wiring.specs.declared.program.Program.{Program}
 use Rattle.wiring.specs.Graphs.{Graph, graph_of}
-use Rattle.wiring.specs.Lists.{Each₂}
+use Rattle.wiring.specs.Lists.{Each₂, All}
 use Rattle.wiring.specs.Runs.{Worked, run}
 use Rattle.sheet.specs.declared.figures.SheetFault.{SheetFault}
 use Rattle.sheet.specs.declared.figures.SheetFault.TheVariants.{Format, Program as OfProgram, PeaksRow, CeilingsRow, BandRow, Range, Node}
+use Rattle.sheet.specs.declared.rounds.Rounds.{Rounds}
+use Rattle.sheet.specs.declared.rounds.BoundRows.{BoundRows}
 use Rattle.sheet.specs.Rounds.{nth_box}
 use Rattle.sheet.specs.Sheets.{Below, Closed, Falls, Nowhere}
 
@@ -69,22 +73,12 @@ Lowered box new = (i : ℕ) × (i < length box) × ((get_or new i none).peak < (
 abbrev pub NotLowered : Bound → Bound → Type 0
 NotLowered entry value = entry.peak ≤ value.peak
 
--- rows that a wiring's rounds can use
-pub record Room (g : Graph) (row working : List Bound) : Type 0 where
-  pub registers : length g.sources ≤ length row
-  pub nodes : length g.nodes ≤ length working
-
 -- the working row holds what the round w made: at the sources and at the output
 pub record Holds (g : Graph) (w : Worked Bound) (working : List Bound) : Type 0 where
   pub sources : sources_in g.sources working ≡ w.registers
   pub output : get_or working g.output none ≡ w.output
 
 module _ (s : FixedArithmetic) (g : Graph) (cs : List ℤ) where
-  -- a round from the box, on the sample u
-  abbrev pub RoundAnswer : ℤ → List Bound → Result (Unit {0}) SheetFault → List Bound → Type 0
-  RoundAnswer u box (Ok _) working = (w : Worked Bound) × (run (bound_arithmetic s) g cs box u ≡ Ok w) × Holds g w working
-  RoundAnswer u box (Err f) working = IsAtNode (λ k e. run (bound_arithmetic s) g cs box u ≡ Err (OfRun k e)) f
-
   -- the least closed box, met in rounds from zero, with the output in the round from it
   pub record Least (X : ℕ) (box : List Bound) (output : Bound) : Type 0 where
     pub closed : Closed s g cs X box
@@ -92,11 +86,50 @@ module _ (s : FixedArithmetic) (g : Graph) (cs : List ℤ) where
     pub met : (n : ℕ) × (nth_box s g cs X n ≡ Ok box)
     pub output_is : output ≡ closed.made.output
 
-  -- the search from zero: the row's box is then the least closed box and the working row has the output of the round from it
-  abbrev pub SearchAnswer : ℕ → Result (Unit {0}) SheetFault → List Bound → List Bound → Type 0
-  SearchAnswer X (Ok _) row working = Least X (box_in g row) (slice_index_or working g.output none)
-  SearchAnswer X (Err f) row working = IsAtNode (Nowhere s g cs X) f
+-- ---- what rounds are worked with, and their rows
+module _ {R O : Type 0} (a : Rounds R O) where
+  abbrev pub rounds_graph : Graph
+  rounds_graph = program_graph a.program
 
-  -- rounds with input 0 from the box in the row: how many lower a peak, the row's box after them, and the output peak of one more
-  abbrev pub FallsTo : List Bound → ℕ → List Bound → List Bound → Type 0
-  FallsTo before count after working = Falls s g cs (peaks_of (box_in g before)) count (peaks_of (box_in g after)) (get_or working g.output none).peak
+  abbrev pub rounds_list : List ℤ
+  rounds_list = program_list a.program
+
+  -- the box in the register row
+  abbrev pub held_box : BoundRows → List Bound
+  held_box rows = box_in rounds_graph rows.registers
+
+  -- the box that the last round made
+  abbrev pub made_box : BoundRows → List Bound
+  made_box rows = sources_in rounds_graph.sources rows.working
+
+  -- what the last round gave at the output
+  abbrev pub made_output : BoundRows → Bound
+  made_output rows = slice_index_or rows.working rounds_graph.output none
+
+  -- P of register i's source and its entry
+  abbrev pub AtRegister : BoundRows → (Bound → Bound → Type 0) → ℕ → Type 0
+  AtRegister rows P i = P (slice_index_or rows.working (slice_index rounds_graph.sources i) none) (slice_index_or rows.registers i none)
+
+module _ {R O : Type 0} (r : R → RoundingRule) (o : O → OverflowRule) (a : Rounds R O) where
+  abbrev pub rounds_meaning : FixedArithmetic
+  rounds_meaning = meaning r o a.values.setting
+
+  -- a round from the box in the register row, which stays, on the sample u
+  abbrev pub RoundAnswer : ℤ → BoundRows → Result (Unit {0}) SheetFault → BoundRows → Type 0
+  RoundAnswer u before (Ok _) after = (after.registers ≡ before.registers) × (w : Worked Bound)
+      × (run (bound_arithmetic rounds_meaning) (rounds_graph a) (rounds_list a) (held_box a after) u ≡ Ok w) × Holds (rounds_graph a) w after.working
+  RoundAnswer u before (Err f) after = IsAtNode (λ k e. run (bound_arithmetic rounds_meaning) (rounds_graph a) (rounds_list a) (held_box a before) u ≡ Err (OfRun k e)) f
+
+  -- the search from zero: the register row has the least closed box and the working row the output of the round from it
+  abbrev pub SearchAnswer : ℕ → Result BoundRows SheetFault → Type 0
+  SearchAnswer X (Ok rows) = Least rounds_meaning (rounds_graph a) (rounds_list a) X (held_box a rows) (made_output a rows)
+  SearchAnswer X (Err f) = IsAtNode (Nowhere rounds_meaning (rounds_graph a) (rounds_list a) X) f
+
+  -- rounds with input 0 can be worked from the box in the register row
+  pub record Settles (rows : BoundRows) : Type 0 where
+    pub closed : Closed rounds_meaning (rounds_graph a) (rounds_list a) 0 (held_box a rows)
+    pub small : All (λ b. b.peak ≤ peak_limit rounds_meaning) (held_box a rows)
+
+  -- how many of them lower a peak, the box after them, and the output peak of one more
+  abbrev pub FallsTo : BoundRows → ℕ → BoundRows → Type 0
+  FallsTo before count after = Falls rounds_meaning (rounds_graph a) (rounds_list a) (peaks_of (held_box a before)) count (peaks_of (held_box a after)) (made_output a after).peak

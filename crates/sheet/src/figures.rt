@@ -33,6 +33,28 @@ pub enum SheetFault {
     Node(usize, Refusal),
 }
 
+impl From<FormatFault> for SheetFault {
+    ghost use Rattle.std.specs.Prelude.{◌≡◌};
+    ghost use Rattle.sheet.specs.declared.figures.SheetFault.TheVariants.{Format};
+
+    ghost from_gives = { λ e f. f ≡ Format e };
+
+    fn from(fault: FormatFault) -> SheetFault {
+        SheetFault::Format(fault)
+    }
+}
+
+impl From<ProgramFault> for SheetFault {
+    ghost use Rattle.std.specs.Prelude.{◌≡◌};
+    ghost use Rattle.sheet.specs.declared.figures.SheetFault.TheVariants.{Program};
+
+    ghost from_gives = { λ e f. f ≡ Program e };
+
+    fn from(fault: ProgramFault) -> SheetFault {
+        SheetFault::Program(fault)
+    }
+}
+
 impl SheetFault {
     // The number by which the fault is refused.
     pub fn number(self) -> u32

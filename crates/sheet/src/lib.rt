@@ -3,6 +3,7 @@
 
 pub mod figures;
 mod round;
+mod rounds;
 mod rows;
 mod search;
 pub mod sheet;

@@ -45,13 +45,15 @@ const LENT: Rows = Rows {
     band: [9, 9],
 };
 
-// The panel's sheet in format 4.4.
-fn panel_sheet<R: Rounding>(
+// The panel's sheet in format 4.4, into rows of any length.
+fn lent_sheet<R: Rounding>(
     heap: Global,
     rounding: R,
     list: &[i32],
     range: i32,
-    rows: &mut Rows,
+    peaks: &mut [u32],
+    ceilings: &mut [u64],
+    band: &mut [u32],
 ) -> Result<Result<Figures, SheetFault>, AllocError> {
     let setting = Setting {
         whole: 4,
@@ -64,10 +66,29 @@ fn panel_sheet<R: Rounding>(
         panel(heap)?,
         list.to_vec(heap)?,
         range,
+        peaks,
+        ceilings,
+        band,
+    ))
+}
+
+// The same into the three rows.
+fn panel_sheet<R: Rounding>(
+    heap: Global,
+    rounding: R,
+    list: &[i32],
+    range: i32,
+    rows: &mut Rows,
+) -> Result<Result<Figures, SheetFault>, AllocError> {
+    lent_sheet(
+        heap,
+        rounding,
+        list,
+        range,
         &mut rows.peaks,
         &mut rows.ceilings,
         &mut rows.band,
-    ))
+    )
 }
 
 #[test]
@@ -162,61 +183,24 @@ fn range_is_a_word_from_zero_up(rt: HostRuntime) -> Result<(), Fail> {
 #[test]
 fn short_rows_come_before_the_range(rt: HostRuntime) -> Result<(), Fail> {
     let heap = rt.alloc();
-    let setting = Setting {
-        whole: 4,
-        fraction: 4,
-        rounding: TowardZero,
-        overflow: Wrap,
-    };
+    let list = [8, -8];
     let mut peaks = [9u32];
     let mut ceilings = [9u64];
     let mut band = [9u32];
     assert_eq!(rt;
-        sheet(
-            &setting,
-            panel(heap)?,
-            [8, -8].to_vec(heap)?,
-            128,
-            &mut [],
-            &mut [],
-            &mut [],
-        ),
+        lent_sheet(heap, TowardZero, &list, 128, &mut [], &mut [], &mut [])?,
         Err(SheetFault::PeaksRow)
     );
     assert_eq!(rt;
-        sheet(
-            &setting,
-            panel(heap)?,
-            [8, -8].to_vec(heap)?,
-            128,
-            &mut peaks,
-            &mut [],
-            &mut [],
-        ),
+        lent_sheet(heap, TowardZero, &list, 128, &mut peaks, &mut [], &mut [])?,
         Err(SheetFault::CeilingsRow)
     );
     assert_eq!(rt;
-        sheet(
-            &setting,
-            panel(heap)?,
-            [8, -8].to_vec(heap)?,
-            128,
-            &mut peaks,
-            &mut ceilings,
-            &mut [],
-        ),
+        lent_sheet(heap, TowardZero, &list, 128, &mut peaks, &mut ceilings, &mut [])?,
         Err(SheetFault::BandRow)
     );
     assert_eq!(rt;
-        sheet(
-            &setting,
-            panel(heap)?,
-            [8, -8].to_vec(heap)?,
-            128,
-            &mut peaks,
-            &mut ceilings,
-            &mut band,
-        ),
+        lent_sheet(heap, TowardZero, &list, 128, &mut peaks, &mut ceilings, &mut band)?,
         Err(SheetFault::Range)
     );
     assert_eq!(rt; (peaks, ceilings, band), ([9], [9], [9]));
