@@ -1,5 +1,5 @@
 -- What a material that nothing is wrong with passes. Assumes nothing.
-use Rattle.std.proofs.Common.{◌≡◌, ℕ, suc, ◌+◌, ◌-◌, ◌^◌, ◌≤◌, max, Bool, true, false, cond, ◌&&◌, eqb, leb, List, [], ◌∷◌, ◌++◌, length, ℤ, pos, Some, None, Err, Option, sym, refl, ap, ◌∙◌, arith}
+use Rattle.std.proofs.Common.{◌≡◌, ℕ, suc, ◌+◌, ◌-◌, ◌^◌, ◌≤◌, max, Bool, true, false, cond, ◌&&◌, eqb, leb, List, [], ◌∷◌, ◌++◌, length, ℤ, pos, Some, None, Ok, Err, Option, Result, IsOk, ◌⊎◌, inl, inr, sym, refl, ap, subst, ◌∙◌, arith}
 use Rattle.std.proofs.lemmas.List.{length-append}
 use Rattle.std.proofs.lemmas.Bool.{both_ways, and_parts, and_from, le-leb, lt-ltb, eq-eqb, leb-true, eqb-true}
 use Rattle.std.proofs.lemmas.Nat.{pow_below}
@@ -14,13 +14,16 @@ use Rattle.forms.specs.declared.form.Form.{Form}
 use Rattle.forms.specs.declared.form.Form.TheVariants.{Direct1, Direct2, Transposed2}
 use Rattle.forms.specs.Forms.{form_graph, transposed2_gain, transposed2_recursive}
 use Rattle.forms.specs.declared.form.FormFault.{FormFault}
-use Rattle.forms.specs.declared.form.FormFault.TheVariants.{Numerator, Denominator, Memory}
-use Rattle.forms.specs.Built.{numerator_good, denominator_good, BuildAnswer, form_number}
+use Rattle.forms.specs.declared.form.FormFault.TheVariants.{Numerator, Denominator}
+use Rattle.forms.specs.Built.{numerator_good, denominator_good, BuildAnswer}
 use Rattle.forms.proofs.Sound.{sound_form}
 use Rattle.sheet.specs.declared.figures.SheetFault.TheVariants.{Format, Program, PeaksRow, CeilingsRow, BandRow, Range}
 use Rattle.sheet.specs.Calls.{Rows, in_range, call_fault, sheet_check}
 use Rattle.materials.specs.Layout.{Material}
-use Rattle.materials.specs.Records.{words_ok, unwritten, material_fault}
+use Rattle.materials.specs.Records.{words_ok, unwritten, material_fault, ChoicesFound, FormatFound}
+use Rattle.materials.specs.declared.letters.Choices.{Choices}
+use Rattle.materials.specs.declared.refusal.RecordFault.{RecordFault}
+use Rattle.arithmetic.specs.declared.format.Format.{Format as FormatType}
 use Rattle.materials.proofs.Rows.{some_none, cond_none}
 use Rattle.materials.proofs.Chains.{passed, bounded}
 use Rattle.schedule_text.specs.Outcomes.{range_in, range_of, coefficients_of, wiring_in}
@@ -89,6 +92,15 @@ module _ (m : Material) (good : material_fault m ≡ None) where
       let d = cond_none (leb 8 (m.whole + m.fraction) && leb (m.whole + m.fraction) 24) _ _ b.1 in
       leb-true 8 (m.whole + m.fraction) (and_parts _ _ d.0).0
 
+  -- its letters and its bits stand for something
+  pub choices_stand : (r : Result Choices RecordFault) → ChoicesFound m.form m.rounding m.overflow r → IsOk r
+  choices_stand (Ok x) h = refl
+  choices_stand (Err e) h = absurd (some_none e (sym h ∙ (passed (unwritten m.name) m good).lettered))
+
+  pub format_stands : (r : Result FormatType RecordFault) → FormatFound m.whole m.fraction r → IsOk r
+  format_stands (Ok x) h = refl
+  format_stands (Err e) h = absurd (some_none e (sym h ∙ (passed (unwritten m.name) m good).formatted))
+
   pub numerator_passes : numerator_good (length m.forward) ≡ true
   numerator_passes =
       let b = bounded m good in
@@ -130,7 +142,7 @@ module _ (m : Material) (good : material_fault m ≡ None) where
         λ i. first (option_map Format (format_passes i)) (first (option_map Program (first (option_map Wiring (wiring_passes i)) (list_passes i))) (call_passes (length lent.peaks) (length lent.ceilings) (length lent.band) hp hc hb i))
 
   -- building its filter is refused for want of memory alone
-  pub build_passes : (f : Form) (e : FormFault) (n : ℕ) → BuildAnswer f m.forward m.back (Err e) → form_number e ≡ Some n → ⊥
-  build_passes f Numerator n h k = both_ways _ h numerator_passes
-  build_passes f Denominator n h k = both_ways _ h.1 denominator_passes
-  build_passes f Memory n h k = some_none n (sym k)
+  module _ (f : Form) (e : FormFault) (h : BuildAnswer f m.forward m.back (Err e)) where
+    pub build_passes : (e ≡ Numerator) ⊎ (e ≡ Denominator) → ⊥
+    build_passes (inl k) = both_ways _ (subst (λ x. BuildAnswer f m.forward m.back (Err x)) k h) numerator_passes
+    build_passes (inr k) = both_ways _ (subst (λ x. BuildAnswer f m.forward m.back (Err x)) k h).1 denominator_passes

@@ -1,5 +1,5 @@
 -- What a sheet's answer tells of a good material. Assumes nothing.
-use Rattle.std.proofs.Common.{◌≡◌, ℕ, ◌+◌, ◌≤◌, List, length, replicate, ℤ, pos, Some, None, Ok, Err, Option, Result, sym, refl, ◌∙◌, subst, arith, w32, SFits, to_z, of_z}
+use Rattle.std.proofs.Common.{◌≡◌, ℕ, ◌+◌, ◌≤◌, List, length, replicate, ℤ, pos, Some, None, Ok, Err, Option, Result, IsSome, sym, refl, ◌∙◌, subst, arith, w32, SFits, to_z, of_z}
 use mathlib.Core.Path.{transport}
 use Rattle.std.proofs.lemmas.List.{length-replicate}
 use Rattle.std.proofs.lemmas.Int.{to_z-of_z}
@@ -29,6 +29,10 @@ use Rattle.schedule_text.proofs.Good.{format_passes, check_passes}
 abbrev pub Tells : Material → Option Outcome → Type 0
 Tells m (Some o) = OutcomeOf m o
 Tells m None = ⊥
+
+pub tells_some : (m : Material) (o : Option Outcome) → Tells m o → IsSome o
+tells_some m (Some o) h = refl
+tells_some m None h = absurd h
 
 -- the setting that is handed to the sheet's call, and its rows
 abbrev pub setting_of : Choices → ℕ → ℕ → Setting RoundingChoice OverflowChoice

@@ -8,7 +8,7 @@ ghost use Rattle.schedule_text.specs.Outcomes.{OutcomeOf, FilterOf, range_in, to
 use crate::outcome::Outcome;
 use arithmetic::format::Format;
 use arithmetic::setting::Setting;
-use forms::form::{Filter, Form};
+use forms::form::{Filter, Form, FormFault};
 use materials::record::Record;
 use sheet::figures::{Figures, SheetFault};
 use sheet::sheet::sheet;
@@ -22,12 +22,10 @@ fn filter(heap: Global, form: Form, item: &Record) -> Result<Filter, AllocError>
 {
     match form.build(heap, item.feedforward.as_slice(), item.feedback.as_slice()) {
         Ok(filter) => Ok(filter),
-        Err(fault) => {
-            let None = fault.number() else {
-                unreachable();
-            };
-            Err(AllocError)
-        }
+        Err(fault) => match fault {
+            FormFault::Memory => Err(AllocError),
+            FormFault::Numerator | FormFault::Denominator => unreachable!(),
+        },
     }
 }
 
@@ -57,12 +55,8 @@ pub(crate) fn outcome(heap: Global, item: &Record) -> Result<Outcome, AllocError
     requires { record_fault item.now ≡ None }
     ensures { IfOk result (OutcomeOf (meaning item.now)) }
 {
-    let Ok(choices) = item.choices() else {
-        unreachable();
-    };
-    let Ok(format) = item.format() else {
-        unreachable();
-    };
+    let choices = item.choices().unwrap();
+    let format = item.format().unwrap();
     let filter = filter(heap, choices.form, item)?;
     let setting = Setting {
         whole: format.whole(),
@@ -82,8 +76,5 @@ pub(crate) fn outcome(heap: Global, item: &Record) -> Result<Outcome, AllocError
         &mut ceilings,
         &mut band,
     );
-    let Some(outcome) = told(answer) else {
-        unreachable();
-    };
-    Ok(outcome)
+    Ok(told(answer).unwrap())
 }

@@ -28,14 +28,14 @@ fn put_lines(heap: Global, text: &mut Vec<u8>, records: &[Record]) -> Result<(),
 fn refused(heap: Global, number: u8) -> Result<Vec<u8>, AllocError>
     ensures { IfOk result (λ v. v.items ≡ refused_line number) }
 {
-    Vec::from_slice(heap, format!(in heap; "refused\t{number}\n")?.as_bytes())
+    Ok(format!(in heap; "refused\t{number}\n")?.into_bytes())
 }
 
 // The first line for so many materials.
 fn first_line(heap: Global, count: usize) -> Result<Vec<u8>, AllocError>
     ensures { IfOk result (λ v. v.items ≡ count_line count) }
 {
-    Vec::from_slice(heap, format!(in heap; "materials\t{count}\n")?.as_bytes())
+    Ok(format!(in heap; "materials\t{count}\n")?.into_bytes())
 }
 
 /// The schedule of a materials file: the count of its materials, then a line for each in file order; or the number by which it is refused.
@@ -46,12 +46,7 @@ pub fn schedule(heap: Global, file: &[u8]) -> Result<Vec<u8>, AllocError>
 {
     let records = match read(heap, file) {
         Ok(records) => records,
-        Err(refusal) => {
-            return match refusal.number() {
-                Some(number) => refused(heap, number),
-                None => Err(AllocError),
-            };
-        }
+        Err(refusal) => return refused(heap, refusal.number().ok_or(AllocError)?),
     };
     let mut text = first_line(heap, records.len())?;
     put_lines(heap, &mut text, records.as_slice())?;
