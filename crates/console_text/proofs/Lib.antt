@@ -1,9 +1,6 @@
 mod Plains
 mod Cutting
 mod Reading
-mod Asking
-mod Answering
 mod Limiting
-mod Zeros
 mod Wholes
 mod Finding

@@ -1,10 +1,11 @@
 -- The limits of a watch, from the sheet's answer.
-use Rattle.std.proofs.Common.{◌≡◌, ℕ, ◌+◌, ◌-◌, ◌^◌, ◌≤◌, Bool, true, false, leb, List, length, replicate, ℤ, pos, nat_abs, Some, None, Ok, Err, Option, sym, refl, ap, ◌∙◌, subst, arith}
+use Rattle.std.proofs.Common.{◌≡◌, ℕ, ◌+◌, ◌-◌, ◌^◌, ◌≤◌, Bool, true, false, leb, List, length, replicate, ℤ, pos, nat_abs, Some, None, Ok, Err, Option, Result, is_ok, sym, refl, ap, ◌∙◌, subst, arith}
 use mathlib.Core.Path.{transport}
+use Rattle.std.specs.Result.{result_ok}
 use Rattle.std.proofs.lemmas.Nat.{pow_below}
 use Rattle.std.proofs.lemmas.List.{length-replicate}
-use Rattle.std.proofs.lemmas.Bool.{and_from, le-leb, lt-ltb, leb-true}
-use Rattle.std.specs.Option.{option_map}
+use Rattle.std.proofs.lemmas.Bool.{and_from, le-leb, lt-ltb, leb-true, both_ways}
+use Rattle.std.specs.Option.{option_map, unwrap_or}
 use Rattle.arithmetic.specs.Choices.{rounding_rule, overflow_rule}
 use Rattle.arithmetic.specs.Settings.{meaning, SettingAnswer}
 use Rattle.arithmetic.specs.Words.{half}
@@ -28,13 +29,18 @@ use Rattle.console_text.specs.Watching.{WatchLimits, zero_rows, SheetLimits}
 use Rattle.console_text.specs.Sessions.{range_in}
 
 module _ (st : Setting RoundingChoice OverflowChoice) (g : Graph) (cs : List ℤ) (x y : ℤ) (same : x ≡ y) (after : Rows) where
-  pub limits_granted : (f : Figures) (range count : ℕ) → SheetAnswer rounding_rule overflow_rule st g cs x zero_rows after (Ok f) → range ≡ nat_abs y → count ≡ f.count → SheetLimits st g cs y (Some (record { range = range; count = count }))
-  limits_granted f range count h r n p a =
-      let v = h.1 p a in
-      (v.0, subst (λ z. Granted (meaning rounding_rule overflow_rule p) g cs (nat_abs z) v.0) same v.1, (λ i. record { range = r i; count = (n ∙ ap (λ k. k.count) v.2) i }))
+  abbrev Answers : Result Figures SheetFault → Type 0
+  Answers a = SheetAnswer rounding_rule overflow_rule st g cs x zero_rows after a
 
-  pub limits_refused : (e : SheetFault) → SheetAnswer rounding_rule overflow_rule st g cs x zero_rows after (Err e) → SheetLimits st g cs y None
-  limits_refused e h = (e, after, subst (λ z. SheetAnswer rounding_rule overflow_rule st g cs z zero_rows after (Err e)) same h)
+  pub limits_granted : (a : Result Figures SheetFault) → Answers a → (f : Figures) (range count : ℕ) → Some f ≡ result_ok a → range ≡ nat_abs y → count ≡ f.count → SheetLimits st g cs y (Some (record { range = range; count = count }))
+  limits_granted (Err e) h f range count is r n = absurd (some_none f is)
+  limits_granted (Ok x) h f range count is r n = λ p a.
+      let v = h.1 p a in
+      (v.0, subst (λ z. Granted (meaning rounding_rule overflow_rule p) g cs (nat_abs z) v.0) same v.1, (λ i. record { range = r i; count = (n ∙ ap (λ k. k.count) (ap (λ o. unwrap_or o f) is ∙ v.2)) i }))
+
+  pub limits_refused : (a : Result Figures SheetFault) → Answers a → false ≡ is_ok a → SheetLimits st g cs y None
+  limits_refused (Ok f) h k = absurd (both_ways true (sym k) refl)
+  limits_refused (Err e) h k = (e, after, subst (λ z. SheetAnswer rounding_rule overflow_rule st g cs z zero_rows after (Err e)) same h)
 
 -- the same limits for an equal wiring, list and range
 pub limits_same : (st : Setting RoundingChoice OverflowChoice) (g g' : Graph) (cs cs' : List ℤ) (x x' : ℤ) (o : Option Limits) → g ≡ g' → cs ≡ cs' → x ≡ x' → SheetLimits st g cs x o → SheetLimits st g' cs' x' o

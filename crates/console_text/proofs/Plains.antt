@@ -1,9 +1,9 @@
 -- A number's text is ASCII, and so UTF-8.
-use Rattle.std.proofs.Common.{◌≡◌, ℕ, Bool, true, false, cond, eqb, List, [], ◌∷◌, drop, IsUtf8, IsAscii, refl, arith}
+use Rattle.std.proofs.Common.{◌≡◌, ℕ, Bool, true, false, cond, eqb, List, [], ◌∷◌, drop, Ok, Err, Result, is_ok, MatchResult, IsUtf8, IsAscii, sym, refl, arith}
 use Rattle.std.specs.Str.Parse.{AllDigits}
 use Rattle.std.proofs.lemmas.Str.Ascii.{IsAscii-nil, IsAscii-cons}
 use Rattle.std.proofs.lemmas.Str.Parse.{digit_from_value}
-use Rattle.std.proofs.lemmas.Bool.{eqb-true}
+use Rattle.std.proofs.lemmas.Bool.{eqb-true, both_ways}
 use Rattle.std.proofs.lemmas.Str.{IsUtf8-from_ascii}
 use Rattle.console_text.specs.Numbers.{Plain}
 
@@ -25,3 +25,7 @@ plain_ascii (b ∷ bs) h = signed_ascii b bs (eqb b 45) (eqb b 43) refl refl h.0
 -- so what is no UTF-8 writes no number
 pub plain_utf8 : (bs : List ℕ) → Plain bs → IsUtf8 bs
 plain_utf8 bs h = IsUtf8-from_ascii bs (plain_ascii bs h)
+
+pub not_utf8 : {S E : Type 0} (bs : List ℕ) (P : S → Type 0) (Q : E → Type 0) (r : Result S E) → MatchResult r P (λ e. (IsUtf8 bs → ⊥) × Q e) → false ≡ is_ok r → Plain bs → ⊥
+not_utf8 bs P Q (Ok x) h k p = both_ways true (sym k) refl
+not_utf8 bs P Q (Err e) h k p = h.0 (plain_utf8 bs p)

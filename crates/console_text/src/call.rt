@@ -1,10 +1,10 @@
 //! The lines that are typed at a channel, read as calls.
-ghost use Rattle.std.specs.Prelude.{map, IfOk, vec_items};
+ghost use Rattle.std.specs.Prelude.{map, IfOk};
 ghost use Rattle.console_text.specs.Calls.{Asks};
 ghost use Rattle.console_text.specs.Numbers.{NumberOf, NumbersOf};
 
 use crate::pieces::pieces;
-use crate::rows::zeros;
+use crate::rows::Rows;
 use replay::log::Call;
 use std::alloc::{AllocError, Global};
 use std::str::from_utf8;
@@ -13,25 +13,19 @@ use std::str::from_utf8;
 fn number(bytes: &[u8]) -> Option<i32>
     ensures { NumberOf bytes.now result }
 {
-    if !bytes.is_empty() && bytes[0] == b'+' {
+    if bytes.first() == Some(&b'+') {
         return None;
     }
-    let Ok(text) = from_utf8(bytes) else {
-        return None;
-    };
-    match text.parse::<i32>() {
-        Ok(n) => Some(n),
-        Err(_) => None,
-    }
+    from_utf8(bytes).ok()?.parse().ok()
 }
 
 // The numbers that texts write, in order, or none where one of them writes none.
-fn numbers(heap: Global, texts: &[Vec<u8>]) -> Result<Option<Vec<i32>>, AllocError>
-    ensures { IfOk result (λ v. NumbersOf (map vec_items texts.now) v) }
+fn numbers(heap: Global, texts: &[&[u8]]) -> Result<Option<Vec<i32>>, AllocError>
+    ensures { IfOk result (λ v. NumbersOf (map (λ t. t.now) texts.now) v) }
 {
     let mut all = Vec::new(heap);
     for text in texts {
-        let Some(n) = number(text.as_slice()) else {
+        let Some(n) = number(text) else {
             return Ok(None);
         };
         all.push(n)?;
@@ -39,17 +33,16 @@ fn numbers(heap: Global, texts: &[Vec<u8>]) -> Result<Option<Vec<i32>>, AllocErr
     Ok(Some(all))
 }
 
-/// The call that a line asks for on a channel with so many registers and nodes, or none where the line has another form.
+/// The call that a line asks for on a channel with these rows, or none where the line has another form.
 /// A feed has a working row of zeros.
 pub(crate) fn read_call<V: Copy>(
     heap: Global,
     line: &[u8],
-    registers: usize,
-    nodes: usize,
-    zero: V,
+    rows: &Rows<V>,
 ) -> Result<Option<Call<V>>, AllocError>
-    ensures { IfOk result (λ c. Asks registers nodes line.now c) }
+    ensures { IfOk result (λ c. Asks rows.now.registers rows.now.nodes line.now c) }
 {
+    let registers = rows.registers;
     if line == b"hush".as_slice() {
         return Ok(Some(Call::Hush { registers }));
     }
@@ -57,21 +50,22 @@ pub(crate) fn read_call<V: Copy>(
         return Ok(Some(Call::Swap(Vec::new(heap))));
     }
     if let Some(rest) = line.strip_prefix(b"feed ") {
-        return match number(rest) {
-            Some(sample) => Ok(Some(Call::Feed {
-                registers,
-                working: zeros(heap, zero, nodes)?,
-                sample,
-            })),
-            None => Ok(None),
+        let Some(sample) = number(rest) else {
+            return Ok(None);
         };
+        let working = rows.working_row(heap)?;
+        return Ok(Some(Call::Feed {
+            registers,
+            working,
+            sample,
+        }));
     }
     if let Some(rest) = line.strip_prefix(b"swap ") {
         let texts = pieces(heap, rest, b' ')?;
-        return match numbers(heap, texts.as_slice())? {
-            Some(coefficients) => Ok(Some(Call::Swap(coefficients))),
-            None => Ok(None),
+        let Some(coefficients) = numbers(heap, texts.as_slice())? else {
+            return Ok(None);
         };
+        return Ok(Some(Call::Swap(coefficients)));
     }
     Ok(None)
 }

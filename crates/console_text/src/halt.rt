@@ -27,10 +27,9 @@ impl From<Refusal> for Halt {
     ghost from_gives = { λ e r. r ≡ halted (refusal_number e) };
 
     fn from(refusal: Refusal) -> Halt {
-        match refusal.number() {
-            Some(number) => Halt::Refused(u32::from(number)),
-            None => Halt::Memory,
-        }
+        refusal
+            .number()
+            .map_or(Halt::Memory, |number| Halt::Refused(u32::from(number)))
     }
 }
 
@@ -54,10 +53,7 @@ impl From<FormFault> for Halt {
     ghost from_gives = { λ e r. r ≡ halted (form_number e) };
 
     fn from(fault: FormFault) -> Halt {
-        match fault.number() {
-            Some(number) => Halt::Refused(number),
-            None => Halt::Memory,
-        }
+        fault.number().map_or(Halt::Memory, Halt::Refused)
     }
 }
 

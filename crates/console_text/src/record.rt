@@ -54,7 +54,7 @@ fn sheet_limits(setting: &Chosen, filter: Filter, range: i32) -> Option<Limits>
     let mut peaks = [0u32; MAX_REGISTERS];
     let mut ceilings = [0u64; MAX_REGISTERS];
     let mut band = [0u32; MAX_REGISTERS];
-    let answer = sheet(
+    let figures = sheet(
         setting,
         filter.wiring,
         filter.coefficients,
@@ -62,14 +62,12 @@ fn sheet_limits(setting: &Chosen, filter: Filter, range: i32) -> Option<Limits>
         &mut peaks,
         &mut ceilings,
         &mut band,
-    );
-    match answer {
-        Ok(figures) => Some(Limits {
-            range: range.unsigned_abs(),
-            count: figures.count,
-        }),
-        Err(_) => None,
-    }
+    )
+    .ok()?;
+    Some(Limits {
+        range: range.unsigned_abs(),
+        count: figures.count,
+    })
 }
 
 /// The limits of the watch on a record's channel: those of its sheet, where it is granted.

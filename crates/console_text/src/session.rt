@@ -1,5 +1,5 @@
 //! A session: the channel of a record, worked by the lines of an input.
-ghost use Rattle.std.specs.Prelude.{◌≡◌, IfOk, Some, Err, string_bytes, MatchResult};
+ghost use Rattle.std.specs.Prelude.{◌≡◌, length, IfOk, Some, Err, string_bytes, MatchResult};
 ghost use Rattle.wiring.specs.Graphs.{graph_of};
 ghost use Rattle.materials.specs.Layout.{meaning};
 ghost use Rattle.materials.specs.Refusals.{RefusedOrMemory, number as refusal_number};
@@ -11,7 +11,7 @@ ghost use Rattle.console_text.specs.Consoles.{StandsFor, OverKind, ConsoleText};
 use crate::halt::Halt;
 use crate::pieces::lines;
 use crate::record::{Chosen, filter_of, limits_of, setting_of};
-use crate::rows::zeros;
+use crate::rows::Rows;
 use crate::script::read_script;
 use crate::show::Shown;
 use crate::text::session_text;
@@ -36,13 +36,14 @@ fn replayed<K: Kind + Drop>(
     setting: &Chosen,
     filter: Filter,
     limits: Option<Limits>,
-    zero: K::Value,
+    rows: &Rows<K::Value>,
     calls: &[Call<K::Value>],
 ) -> Result<Vec<Entry<K::Value>>, Halt>
+    requires { rows.now.registers ≡ length (graph_of filter.wiring).sources }
     ensures { IfOk result (λ log. LoggedCalls K.Kind.model kind setting.now (graph_of filter.wiring) filter.coefficients.items limits calls.now log.items) }
 {
-    let mut row = zeros(heap, zero, filter.wiring.sources.len())?;
-    let log = replay(
+    let mut row = rows.register_row(heap)?;
+    Ok(replay(
         heap,
         kind,
         setting,
@@ -51,8 +52,7 @@ fn replayed<K: Kind + Drop>(
         limits,
         &mut row,
         calls,
-    )?;
-    Ok(log)
+    )?)
 }
 
 /// The text of a session on a record's channel over a kind of value: the first line, with the kind's name, then the answer to each line of the input.
@@ -72,17 +72,19 @@ where
     let limits = limits_of(heap, item, choices.form, &setting)?;
     let filter = filter_of(heap, item, choices.form)?;
     let lines = lines(heap, input)?;
-    let registers = filter.wiring.sources.len();
-    let nodes = filter.wiring.nodes.len();
-    let zero = kind.zero(&setting.check()?);
-    let script = read_script(heap, lines.as_slice(), registers, nodes, zero)?;
+    let rows = Rows {
+        registers: filter.wiring.sources.len(),
+        nodes: filter.wiring.nodes.len(),
+        zero: kind.zero(&setting.check()?),
+    };
+    let script = read_script(heap, lines.as_slice(), &rows)?;
     let log = replayed(
         heap,
         kind,
         &setting,
         filter,
         limits,
-        zero,
+        &rows,
         script.calls.as_slice(),
     )?;
     Ok(session_text(heap, name, limits, script.marks.as_slice(), log.as_slice())?)
@@ -101,6 +103,7 @@ fn record_of(heap: Global, file: &[u8], name: &[u8]) -> Result<Record, Refusal>
 fn over_kind(heap: Global, kind: &str, item: &Record, input: &[u8]) -> Result<String, Halt>
     ensures { IfOk result (λ s. OverKind kind.now (meaning item.now) input.now (string_bytes s)) }
 {
+    // An enum of the kinds would be matched once more, and the text needs the name.
     match kind {
         "word" => work(heap, WordKind, kind, item, input),
         "enclosed" => work(heap, EnclosedKind, kind, item, input),

@@ -1,127 +1,159 @@
 //! The lines that tell of a channel and of its calls.
-ghost use Rattle.std.specs.Prelude.{◌≡◌, ℕ, List, IfOk, string_bytes};
+ghost use Rattle.std.specs.Prelude.{ℕ, List, Some};
+ghost use Rattle.std.specs.Fmt.{DisplaysOnOk};
 ghost use Rattle.console_text.specs.Lines.{word_fields, enclosed_fields, bound_fields, watch_field, node_field, answer_line, unread_line, limits_field, opened_line};
 
 use channel::fault::CallFault;
 use channel::state::{Limits, State};
 use kinds::values::{Bound, Enclosed, Word};
 use replay::log::{Entry, Told};
-use std::alloc::{AllocError, Global};
+use std::fmt;
 
 /// A value that is told by its fields, with tabs between them.
 pub trait Shown {
     // The bytes of the fields.
     ghost fields: { Self → List ℕ };
 
-    /// The fields.
-    fn fields_of(&self, heap: Global) -> Result<String, AllocError>
-        ensures { IfOk result (λ s. string_bytes s ≡ fields self.now) };
+    /// Writes the fields.
+    fn fmt_fields<W: fmt::Write>(&self, f: &mut fmt::Formatter<W>) -> fmt::Result
+        ensures { DisplaysOnOk W.write_str_gives f.old result (Some (fields self.now)) f.new };
 }
 
 impl Shown for Word {
     ghost fields = { word_fields };
 
-    fn fields_of(&self, heap: Global) -> Result<String, AllocError> {
-        let word = self.word;
-        format!(in heap; "{word}")
+    fn fmt_fields<W: fmt::Write>(&self, f: &mut fmt::Formatter<W>) -> fmt::Result {
+        write!(f, "{}", self.word)
     }
 }
 
 impl Shown for Enclosed {
     ghost fields = { enclosed_fields };
 
-    fn fields_of(&self, heap: Global) -> Result<String, AllocError> {
-        let word = self.word;
-        let low = self.low;
-        let high = self.high;
-        format!(in heap; "{word}\t{low}\t{high}")
+    fn fmt_fields<W: fmt::Write>(&self, f: &mut fmt::Formatter<W>) -> fmt::Result {
+        let Enclosed { word, low, high } = *self;
+        write!(f, "{word}\t{low}\t{high}")
     }
 }
 
 impl Shown for Bound {
     ghost fields = { bound_fields };
 
-    fn fields_of(&self, heap: Global) -> Result<String, AllocError> {
-        let peak = self.peak;
-        let ceiling = self.ceiling;
-        format!(in heap; "{peak}\t{ceiling}")
+    fn fmt_fields<W: fmt::Write>(&self, f: &mut fmt::Formatter<W>) -> fmt::Result {
+        let Bound { peak, ceiling } = *self;
+        write!(f, "{peak}\t{ceiling}")
+    }
+}
+
+/// The fields of a value.
+#[derive_where(Clone, Copy)]
+pub struct Fields<'a, V>(pub &'a V);
+
+impl<V: Shown> fmt::Display for Fields<'_, V> {
+    ghost output = { λ x. Some (V.Shown.fields x.0.now) };
+
+    fn fmt<W: fmt::Write>(&self, f: &mut fmt::Formatter<W>) -> fmt::Result {
+        self.0.fmt_fields(f)
     }
 }
 
 // What the watch says, where there is one.
-fn watch_text(heap: Global, watch: Option<State>) -> Result<String, AllocError>
-    ensures { IfOk result (λ s. string_bytes s ≡ watch_field watch) }
-{
-    match watch {
-        None => String::from_str(heap, "none"),
-        Some(State::Settled) => String::from_str(heap, "settled"),
-        Some(State::Sounding) => String::from_str(heap, "sounding"),
-        Some(State::Falling(n)) => format!(in heap; "falling {n}"),
-        Some(State::Spoilt) => String::from_str(heap, "spoilt"),
-        Some(State::Lapsed) => String::from_str(heap, "lapsed"),
+#[derive(Clone, Copy)]
+struct Watched(Option<State>);
+
+impl fmt::Display for Watched {
+    ghost output = { λ x. Some (watch_field x.0) };
+
+    fn fmt<W: fmt::Write>(&self, f: &mut fmt::Formatter<W>) -> fmt::Result {
+        match self.0 {
+            None => f.write_str("none"),
+            Some(State::Settled) => f.write_str("settled"),
+            Some(State::Sounding) => f.write_str("sounding"),
+            Some(State::Falling(n)) => write!(f, "falling {n}"),
+            Some(State::Spoilt) => f.write_str("spoilt"),
+            Some(State::Lapsed) => f.write_str("lapsed"),
+        }
     }
 }
 
 // The node that refused, or a dash where none did.
-fn node_text(heap: Global, fault: CallFault) -> Result<String, AllocError>
-    ensures { IfOk result (λ s. string_bytes s ≡ node_field fault) }
-{
-    match fault {
-        CallFault::Node(k, _) => format!(in heap; "{k}"),
-        _ => String::from_str(heap, "-"),
+#[derive(Clone, Copy)]
+struct Node(CallFault);
+
+impl fmt::Display for Node {
+    ghost output = { λ x. Some (node_field x.0) };
+
+    fn fmt<W: fmt::Write>(&self, f: &mut fmt::Formatter<W>) -> fmt::Result {
+        match self.0 {
+            CallFault::Node(k, _) => write!(f, "{k}"),
+            _ => f.write_str("-"),
+        }
     }
 }
 
 /// The line of a call, by the log's entry of it: what it told, then what the watch says.
-pub(crate) fn answer_text<V: Shown>(heap: Global, entry: &Entry<V>) -> Result<String, AllocError>
-    ensures { IfOk result (λ s. string_bytes s ≡ answer_line V.Shown.fields entry.now) }
-{
-    let watch = watch_text(heap, entry.watch)?;
-    match &entry.told {
-        Told::Opened => format!(in heap; "opened\t{watch}"),
-        Told::Fed { output, .. } => {
-            let value = output.fields_of(heap)?;
-            format!(in heap; "fed\t{value}\t{watch}")
-        }
-        Told::Swapped => format!(in heap; "swapped\t{watch}"),
-        Told::Hushed => format!(in heap; "hushed\t{watch}"),
-        Told::Refused(fault) => {
-            let number = fault.number();
-            let node = node_text(heap, *fault)?;
-            format!(in heap; "refused\t{number}\t{node}\t{watch}")
+#[derive_where(Clone, Copy)]
+pub(crate) struct Answer<'a, V>(pub(crate) &'a Entry<V>);
+
+impl<V: Shown> fmt::Display for Answer<'_, V> {
+    ghost output = { λ x. Some (answer_line V.Shown.fields x.0.now) };
+
+    fn fmt<W: fmt::Write>(&self, f: &mut fmt::Formatter<W>) -> fmt::Result {
+        let watch = Watched(self.0.watch);
+        match &self.0.told {
+            Told::Opened => write!(f, "opened\t{watch}"),
+            Told::Fed { output, .. } => write!(f, "fed\t{}\t{watch}", Fields(output)),
+            Told::Swapped => write!(f, "swapped\t{watch}"),
+            Told::Hushed => write!(f, "hushed\t{watch}"),
+            Told::Refused(fault) => {
+                let number = fault.number();
+                let node = Node(*fault);
+                write!(f, "refused\t{number}\t{node}\t{watch}")
+            }
         }
     }
 }
 
-/// The line of an input line that asks for no call.
-pub(crate) fn unread_text(heap: Global, number: usize) -> Result<String, AllocError>
-    ensures { IfOk result (λ s. string_bytes s ≡ unread_line number) }
-{
-    format!(in heap; "unread\t{number}")
+/// The line of an input line of this number that asks for no call.
+#[derive(Clone, Copy)]
+pub(crate) struct Unread(pub(crate) usize);
+
+impl fmt::Display for Unread {
+    ghost output = { λ x. Some (unread_line x.0) };
+
+    fn fmt<W: fmt::Write>(&self, f: &mut fmt::Formatter<W>) -> fmt::Result {
+        write!(f, "unread\t{}", self.0)
+    }
 }
 
 // The limits of the watch, where there is one.
-fn limits_text(heap: Global, limits: Option<Limits>) -> Result<String, AllocError>
-    ensures { IfOk result (λ s. string_bytes s ≡ limits_field limits) }
-{
-    match limits {
-        Some(limits) => {
-            let range = limits.range;
-            let count = limits.count;
-            format!(in heap; "{range}\t{count}")
+#[derive(Clone, Copy)]
+struct Limited(Option<Limits>);
+
+impl fmt::Display for Limited {
+    ghost output = { λ x. Some (limits_field x.0) };
+
+    fn fmt<W: fmt::Write>(&self, f: &mut fmt::Formatter<W>) -> fmt::Result {
+        match self.0 {
+            Some(Limits { range, count }) => write!(f, "{range}\t{count}"),
+            None => f.write_str("none"),
         }
-        None => String::from_str(heap, "none"),
     }
 }
 
 /// The first line: the kind, then the limits of the watch, where there is one.
-pub(crate) fn opened_text(
-    heap: Global,
-    kind: &str,
-    limits: Option<Limits>,
-) -> Result<String, AllocError>
-    ensures { IfOk result (λ s. string_bytes s ≡ opened_line kind.now limits) }
-{
-    let limits = limits_text(heap, limits)?;
-    format!(in heap; "opened\t{kind}\twatch\t{limits}")
+#[derive(Clone, Copy)]
+pub(crate) struct Opened<'a> {
+    pub(crate) kind: &'a str,
+    pub(crate) limits: Option<Limits>,
+}
+
+impl fmt::Display for Opened<'_> {
+    ghost output = { λ x. Some (opened_line x.kind.now x.limits) };
+
+    fn fmt<W: fmt::Write>(&self, f: &mut fmt::Formatter<W>) -> fmt::Result {
+        let kind = self.kind;
+        let limits = Limited(self.limits);
+        write!(f, "opened\t{kind}\twatch\t{limits}")
+    }
 }

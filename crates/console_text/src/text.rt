@@ -1,40 +1,28 @@
 //! The text of a session, made from its log.
-ghost use Rattle.std.specs.Prelude.{◌≡◌, ◌<◌, [], ◌∷◌, ◌++◌, length, drop, IfOk, string_bytes, OnOk};
+ghost use Rattle.std.specs.Prelude.{◌≡◌, ◌<◌, ◌≤◌, ◌++◌, length, IfOk, string_bytes, OnOk};
 ghost use Rattle.console_text.specs.Texts.{read_count, answers, marked_text};
 
-use crate::show::{Shown, answer_text, opened_text, unread_text};
+use crate::show::{Answer, Opened, Shown, Unread};
 use channel::state::Limits;
 use replay::log::Entry;
 use std::alloc::{AllocError, Global};
 
-// Adds a line and its line feed.
-fn put_line(text: &mut String, line: &str) -> Result<(), AllocError>
-    ensures { OnOk result (string_bytes text.new ≡ string_bytes text.old ++ (line.now ++ 10 ∷ [])) }
-{
-    text.push_str(line)?;
-    text.push('\n')?;
-    Ok(())
-}
-
-// Adds the answers to marked lines, by a log that begins with the entry of open.
+// Adds the answers to marked lines, by the log's entries of the calls.
 fn put_answers<V: Shown>(
-    heap: Global,
     text: &mut String,
     marks: &[bool],
     log: &[Entry<V>],
 ) -> Result<(), AllocError>
-    requires { read_count marks.now < length log.now }
-    ensures { OnOk result (string_bytes text.new ≡ string_bytes text.old ++ answers V.Shown.fields 1 marks.now (drop 1 log.now)) }
+    requires { read_count marks.now ≤ length log.now }
+    ensures { OnOk result (string_bytes text.new ≡ string_bytes text.old ++ answers V.Shown.fields 1 marks.now log.now) }
 {
-    let mut next = 1usize;
+    let mut entries = log.iter();
     for (i, is_call) in marks.iter().enumerate() {
         if *is_call {
-            let line = answer_text(heap, &log[next])?;
-            put_line(text, line.as_str())?;
-            next += 1;
+            let entry = entries.next().unwrap();
+            writeln!(text, "{}", Answer(entry))?;
         } else {
-            let line = unread_text(heap, i + 1)?;
-            put_line(text, line.as_str())?;
+            writeln!(text, "{}", Unread(i + 1))?;
         }
     }
     Ok(())
@@ -52,7 +40,7 @@ pub(crate) fn session_text<V: Shown>(
     ensures { IfOk result (λ s. string_bytes s ≡ marked_text V.Shown.fields kind.now limits marks.now log.now) }
 {
     let mut text = String::new(heap);
-    put_line(&mut text, opened_text(heap, kind, limits)?.as_str())?;
-    put_answers(heap, &mut text, marks, log)?;
+    writeln!(text, "{}", Opened { kind, limits })?;
+    put_answers(&mut text, marks, &log[1..])?;
     Ok(text)
 }

@@ -1,20 +1,24 @@
-use Rattle.std.proofs.Common.{◌≡◌, eqb, ◌++◌, map, length, vec_items, vec_len, sym, ap, ◌∙◌, append-nil}
-use Rattle.console_text.specs.Pieces.{unless_empty}
-use Rattle.console_text.proofs.Cutting.{piece_push, last_line, no_last_line}
+use borrow.Author.Tests.{tests}
+use Rattle.std.proofs.Common.{◌≡◌, ℕ, ◌-◌, eqb, List, map, length, take, Bor, Some, vec_items, slice_get, sym, ap, ◌∙◌, subst, rules}
+use Rattle.std.specs.Option.{option_copied}
+use Rattle.console_text.proofs.Reading.{bytes}
+use Rattle.console_text.proofs.Cutting.{lines_popped, lines_kept}
 use Rattle.console_text.proofs.pieces.lines.Goals as goal
-use Rattle.console_text.proofs.pieces.lines.Goals.{then-not-is_empty+in_ok-push, else-not-is_empty}
+use Rattle.console_text.proofs.pieces.lines.Goals.{then-is_some_and, else-is_some_and}
 
 pub returns : goal.returns
 returns c =
-    let cut = c.in_ok-ended.ensures in
-    let done = vec_items c.in_ok-ended.field-0.ended in
-    let left = c.in_ok-ended.field-0.rest in
-    let size : eqb (vec_len left) 0 ≡ eqb (length (vec_items left)) 0 = ap (λ n. eqb n 0) left.ok.0 in
-    elim c.if-not-is_empty.branch [
-      | then-not-is_empty+in_ok-push w ↦
-          ap (λ v. map vec_items (vec_items v)) w.ended-is ∙ (piece_push done (vec_items w.push.new.self) left w.in_ok-push.ensures.items
-          ∙ (ap (λ t. map vec_items done ++ t) (last_line (vec_items left) (sym size ∙ (sym c.is_empty.ensures ∙ w.if-not-is_empty.true))) ∙ (λ i. cut.0 i ++ unless_empty (cut.1 i))))
-      | else-not-is_empty w ↦
-          ap (λ v. map vec_items (vec_items v)) w.ended-is ∙ (sym (append-nil (map vec_items done))
-          ∙ (ap (λ t. map vec_items done ++ t) (sym (no_last_line (vec_items left) (sym size ∙ (sym c.is_empty.ensures ∙ w.if-not-is_empty.false)))) ∙ (λ i. cut.0 i ++ unless_empty (cut.1 i))))
+    let text = c.args.text.now in
+    let all = c.in_ok-lines.lines in
+    let xs = vec_items all in
+    let got : option_copied c.last.result ≡ slice_get xs (length xs - 1) = subst (λ l. option_copied c.last.result ≡ slice_get l (length l - 1)) c.deref.ensures.value c.last.ensures.value in
+    let found : (x : Bor (Bor (List ℕ))) → c.last.result ≡ Some x → c.is_some_and.result ≡ eqb (length x.now.now) 0 = λ x e. search (rules, tests) in
+    elim c.if-is_some_and.branch [
+      | then-is_some_and w ↦
+          ap (λ v. map bytes (vec_items v)) w.lines-is ∙ lines_popped text xs c.in_ok-lines.ensures c.last.result got (vec_items w.pop.new.self)
+          (w.pop.ensures.rest ∙ ap (λ n. take (n - 1) xs) all.ok.0)
+          (λ x e. sym w.if-is_some_and.true ∙ found x e)
+      | else-is_some_and w ↦
+          ap (λ v. map bytes (vec_items v)) w.lines-is ∙ lines_kept text xs c.in_ok-lines.ensures c.last.result got
+          (λ x e. sym w.if-is_some_and.false ∙ found x e)
     ]

@@ -1,8 +1,12 @@
-use Rattle.std.proofs.Common.{[], ◌∷◌, ◌++◌, vec_items, ◌∙◌}
-use Rattle.console_text.proofs.Cutting.{piece_push}
+use Rattle.std.proofs.Common.{◌≡◌, map, eqb, IfOk, vec_items, subst, rules}
+use Rattle.std.proofs.lemmas.Iterator.Consumers.{map_from_collect}
+use Rattle.std.proofs.lemmas.Iterator.Splits.{YieldsList-from_slice_split}
+use Rattle.console_text.proofs.Cutting.{split_pieces}
 use Rattle.console_text.proofs.pieces.pieces.Goals as goal
 
 pub returns : goal.returns
 returns c =
-    let cut = c.in_ok-ended.ensures in
-    piece_push (vec_items c.in_ok-ended.field-0.ended) (vec_items c.push.new.self) c.in_ok-ended.field-0.rest c.in_ok-push.ensures.items ∙ (λ i. cut.0 i ++ cut.1 i ∷ [])
+    let at = c.args.at in
+    let text = c.args.text.now in
+    subst (λ ps. IfOk c.collect.result (λ v. map (λ x. x.now) (vec_items v) ≡ ps)) (split_pieces at text)
+    (map_from_collect _ c.collect.ensures.ran (YieldsList-from_slice_split _ (λ b. eqb b at) text c.split.ensures.rest c.split.ensures.done c.split.ensures.closure (λ x b q k. search rules)))
