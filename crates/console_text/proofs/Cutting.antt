@@ -93,7 +93,7 @@ module _ (text : List ℕ) (xs : List (Bor (List ℕ))) (is : map bytes xs ≡ p
   lines_popped ys p m =
       let cut = last_of done left xs is in
       ap (map bytes) (p ∙ ((λ i. take (last_place cut.0 cut.1 cut.2 i) (cut.2 i)) ∙ take-append_seam cut.1 (cut.0 ∷ [])))
-          ∙ (cut.3 ∙ (sym (append-nil done) ∙ ap (λ z. done ++ z) (sym (no_last_line left (sym (left_is true m))))))
+      ∙ (cut.3 ∙ (sym (append-nil done) ∙ ap (λ z. done ++ z) (sym (no_last_line left (sym (left_is true m))))))
 
   -- the last stays
   pub lines_kept : ((x : Bor (Bor (List ℕ))) → o ≡ Some x → false ≡ eqb (length x.now.now) 0) → map bytes xs ≡ lines text

@@ -1,5 +1,5 @@
 -- Lists of numbers and of calls, one element more.
-use Rattle.std.proofs.Common.{◌≡◌, ℕ, zero, suc, ◌+◌, ◌<◌, Bool, true, false, List, [], ◌∷◌, ◌++◌, map, length, get_or, take, ℤ, Some, None, Bor, sym, ap, ◌∙◌, subst, arith}
+use Rattle.std.proofs.Common.{◌≡◌, ℕ, zero, suc, ◌+◌, ◌<◌, Bool, true, false, List, [], ◌∷◌, ◌++◌, map, length, get_or, take, ℤ, Some, None, Bor, sym, subst, arith}
 use Rattle.std.proofs.lemmas.List.{map_more}
 use Rattle.wiring.specs.Lists.{Each₂, none₂, more₂}
 use Rattle.replay.specs.declared.log.Call.{Call}

@@ -1,4 +1,4 @@
-use Rattle.std.proofs.Common.{[], map, take, Some, None, vec_items, sym, ap, ◌∙◌, subst}
+use Rattle.std.proofs.Common.{[], map, take, vec_items, sym, ap, ◌∙◌, subst}
 use Rattle.std.proofs.lemmas.List.{take_all}
 use Rattle.console_text.specs.Calls.{Asks, Reads, no_lines}
 use Rattle.console_text.proofs.Reading.{bytes, reads_more, unread_more}
