@@ -1,4 +1,4 @@
-use Rattle.std.proofs.Common.{Ok, vec_items, sym, refl, ◌∙◌, subst, rules}
+use Rattle.std.proofs.Common.{vec_items, subst, rules}
 use Rattle.wiring.specs.Graphs.{graph_of}
 use Rattle.sheet.specs.Calls.{rows}
 use Rattle.materials.specs.Layout.{meaning}
