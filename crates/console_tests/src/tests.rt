@@ -8,10 +8,7 @@ const EXAMPLE: &[u8] =
 
 // The text of a session on the example file.
 fn text(rt: &HostRuntime, name: &str, kind: &str, input: &[u8]) -> Result<String, Fail> {
-    match session(rt.alloc(), EXAMPLE, name.as_bytes(), kind, input) {
-        Ok(text) => Ok(text),
-        Err(_) => Err(Fail::new("no text")),
-    }
+    Ok(session(rt.alloc(), EXAMPLE, name.as_bytes(), kind, input)?)
 }
 
 #[test]

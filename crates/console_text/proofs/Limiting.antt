@@ -1,5 +1,5 @@
 -- The limits of a watch, from the sheet's answer.
-use Rattle.std.proofs.Common.{◌≡◌, ℕ, ◌+◌, ◌-◌, ◌^◌, ◌≤◌, Bool, true, false, leb, List, length, replicate, ℤ, pos, nat_abs, Some, None, Ok, Err, Option, Result, is_ok, sym, refl, ap, ◌∙◌, subst, arith}
+use Rattle.std.proofs.Common.{◌≡◌, ℕ, ◌+◌, ◌-◌, ◌^◌, ◌≤◌, true, false, leb, List, length, replicate, ℤ, pos, nat_abs, Some, None, Ok, Err, Option, Result, is_ok, sym, refl, ap, ◌∙◌, subst, arith}
 use mathlib.Core.Path.{transport}
 use Rattle.std.specs.Result.{result_ok}
 use Rattle.std.proofs.lemmas.Nat.{pow_below}
@@ -14,6 +14,7 @@ use Rattle.arithmetic.specs.declared.choice.OverflowChoice.{OverflowChoice}
 use Rattle.arithmetic.specs.declared.setting.Setting.{Setting}
 use Rattle.arithmetic.specs.declared.setting.FixedPoint.{FixedPoint}
 use Rattle.wiring.specs.Graphs.{Graph}
+use Rattle.wiring.proofs.Soundness.{first_none, unless_none}
 use Rattle.wiring.specs.Checks.{unless, first, wiring_fault, counts_fault, naming_fault}
 use Rattle.wiring.specs.Programs.{list_fault}
 use Rattle.wiring.specs.declared.faults.ProgramFault.TheVariants.{Wiring}
@@ -45,14 +46,6 @@ module _ (st : Setting RoundingChoice OverflowChoice) (g : Graph) (cs : List ℤ
 -- the same limits for an equal wiring, list and range
 pub limits_same : (st : Setting RoundingChoice OverflowChoice) (g g' : Graph) (cs cs' : List ℤ) (x x' : ℤ) (o : Option Limits) → g ≡ g' → cs ≡ cs' → x ≡ x' → SheetLimits st g cs x o → SheetLimits st g' cs' x' o
 limits_same st g g' cs cs' x x' o eg ec ex h = transport (λ i. SheetLimits st (eg i) (ec i) (ex i) o) h
-
-unless_none : {F : Type 0} (b : Bool) (f : F) → unless b f ≡ None → b ≡ true
-unless_none true f h = refl
-unless_none false f h = absurd (some_none f h)
-
-first_none : {F : Type 0} (o q : Option F) → first o q ≡ None → (o ≡ None) × (q ≡ None)
-first_none (Some f) q h = absurd (some_none f h)
-first_none None q h = (refl, h)
 
 mapped_none : {F G : Type 0} (f : F → G) (o : Option F) → option_map f o ≡ None → o ≡ None
 mapped_none f (Some x) h = absurd (some_none (f x) h)

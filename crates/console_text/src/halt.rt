@@ -13,7 +13,7 @@ use replay::log::ReplayFault;
 use std::alloc::AllocError;
 
 /// Why there is no text.
-#[derive(Drop)]
+#[derive(Debug, Drop)]
 pub enum Halt {
     /// Refused by a number.
     Refused(u32),

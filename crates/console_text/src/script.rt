@@ -7,7 +7,8 @@ use crate::rows::Rows;
 use replay::log::Call;
 use std::alloc::{AllocError, Global};
 
-/// The calls that lines ask for, in order, and of each line whether it asks for one: a replay takes the calls as one slice.
+/// The calls that lines ask for, in order, and of each line whether it asks for one.
+// A list of `Option<Call<V>>` would be taken apart again, since a replay takes the calls as one slice.
 #[derive(Drop)]
 pub(crate) struct Script<V> {
     pub(crate) calls: Vec<Call<V>>,

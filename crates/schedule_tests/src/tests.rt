@@ -56,22 +56,14 @@ fn largest(heap: Global) -> Result<Vec<u8>, Fail> {
         records.push(longest(heap, i)?)?;
     }
     let mut file = vec![in heap; 0u8; 65000]?;
-    let Ok(size) = write(records.as_slice(), &mut file) else {
-        return Err(Fail::new("not written"));
-    };
+    let size = write(records.as_slice(), &mut file)?;
     file.truncate(size);
     Ok(file)
 }
 
 // How many bytes of the text are this one.
 fn count(text: &[u8], byte: u8) -> usize {
-    let mut found = 0usize;
-    for b in text {
-        if *b == byte {
-            found = found.saturating_add(1);
-        }
-    }
-    found
+    text.iter().filter(|b| **b == byte).count()
 }
 
 #[test]

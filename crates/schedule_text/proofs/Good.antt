@@ -1,5 +1,5 @@
 -- What a material that nothing is wrong with passes. Assumes nothing.
-use Rattle.std.proofs.Common.{◌≡◌, ℕ, suc, ◌+◌, ◌-◌, ◌^◌, ◌≤◌, max, Bool, true, false, cond, ◌&&◌, eqb, leb, List, [], ◌∷◌, ◌++◌, length, ℤ, pos, Some, None, Ok, Err, Option, Result, IsOk, ◌⊎◌, inl, inr, sym, refl, ap, subst, ◌∙◌, arith}
+use Rattle.std.proofs.Common.{◌≡◌, ℕ, suc, ◌+◌, ◌-◌, ◌^◌, ◌≤◌, max, Bool, true, false, cond, ◌&&◌, eqb, leb, List, [], ◌∷◌, ◌++◌, length, ℤ, pos, None, Ok, Err, Result, IsOk, ◌⊎◌, inl, inr, sym, refl, ap, subst, ◌∙◌, arith}
 use Rattle.std.proofs.lemmas.List.{length-append}
 use Rattle.std.proofs.lemmas.Bool.{both_ways, and_parts, and_from, le-leb, lt-ltb, eq-eqb, leb-true, eqb-true}
 use Rattle.std.proofs.lemmas.Nat.{pow_below}
@@ -7,6 +7,7 @@ use Rattle.std.specs.Option.{option_map}
 use Rattle.arithmetic.specs.Words.{half, inside}
 use Rattle.arithmetic.specs.Formats.{format_fault}
 use Rattle.wiring.specs.Graphs.{Graph}
+use Rattle.wiring.proofs.Soundness.{first_none, unless_none}
 use Rattle.wiring.specs.Checks.{unless, first, scan, wiring_fault, counts_fault, naming_fault}
 use Rattle.wiring.specs.Programs.{word_fault, words_fault, list_fault}
 use Rattle.wiring.specs.declared.faults.ProgramFault.TheVariants.{Wiring, OtherLength, Coefficient}
@@ -40,14 +41,6 @@ words_both w [] ys h k = k
 words_both w (x ∷ xs) ys h k =
     let p = and_parts (inside w x) (words_ok w xs) h in
     and_from (inside w x) (words_ok w (xs ++ ys)) p.0 (words_both w xs ys p.1 k)
-
-unless_none : {F : Type 0} (b : Bool) (f : F) → unless b f ≡ None → b ≡ true
-unless_none true f h = refl
-unless_none false f h = absurd (some_none f h)
-
-first_none : {F : Type 0} (o q : Option F) → first o q ≡ None → (o ≡ None) × (q ≡ None)
-first_none (Some f) q h = absurd (some_none f h)
-first_none None q h = (refl, h)
 
 -- a wiring that passes its check has at most 16 registers
 few_registers : (g : Graph) → wiring_fault g ≡ None → length g.sources ≤ 16
