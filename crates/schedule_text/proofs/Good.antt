@@ -1,5 +1,5 @@
 -- What a material that nothing is wrong with passes. Assumes nothing.
-use Rattle.std.proofs.Common.{◌≡◌, ℕ, suc, ◌+◌, ◌-◌, ◌^◌, ◌≤◌, max, Bool, true, false, cond, ◌&&◌, eqb, leb, List, [], ◌∷◌, ◌++◌, length, ℤ, pos, None, Ok, Err, Result, IsOk, ◌⊎◌, inl, inr, sym, refl, ap, subst, ◌∙◌, arith}
+use Rattle.std.proofs.Common.{◌≡◌, ℕ, suc, ◌+◌, ◌-◌, ◌^◌, ◌≤◌, max, Bool, true, false, cond, ◌&&◌, eqb, leb, List, [], ◌∷◌, ◌++◌, length, ℤ, pos, None, Err, ◌⊎◌, inl, inr, sym, refl, ap, subst, ◌∙◌, arith}
 use Rattle.std.proofs.lemmas.List.{length-append}
 use Rattle.std.proofs.lemmas.Bool.{both_ways, and_parts, and_from, le-leb, lt-ltb, eq-eqb, leb-true, eqb-true}
 use Rattle.std.proofs.lemmas.Nat.{pow_below}
@@ -21,11 +21,8 @@ use Rattle.forms.proofs.Sound.{sound_form}
 use Rattle.sheet.specs.declared.figures.SheetFault.TheVariants.{Format, Program, PeaksRow, CeilingsRow, BandRow, Range}
 use Rattle.sheet.specs.Calls.{Rows, in_range, call_fault, sheet_check}
 use Rattle.materials.specs.Layout.{Material}
-use Rattle.materials.specs.Records.{words_ok, unwritten, material_fault, ChoicesFound, FormatFound}
-use Rattle.materials.specs.declared.letters.Choices.{Choices}
-use Rattle.materials.specs.declared.refusal.RecordFault.{RecordFault}
-use Rattle.arithmetic.specs.declared.format.Format.{Format as FormatType}
-use Rattle.materials.proofs.Rows.{some_none, cond_none}
+use Rattle.materials.specs.Records.{words_ok, unwritten, material_fault}
+use Rattle.materials.proofs.Rows.{cond_none}
 use Rattle.materials.proofs.Chains.{passed, bounded}
 use Rattle.schedule_text.specs.Outcomes.{range_in, range_of, coefficients_of, wiring_in}
 
@@ -84,15 +81,6 @@ module _ (m : Material) (good : material_fault m ≡ None) where
       let b = cond_none (leb 1 m.fraction) _ _ a.1 in
       let d = cond_none (leb 8 (m.whole + m.fraction) && leb (m.whole + m.fraction) 24) _ _ b.1 in
       leb-true 8 (m.whole + m.fraction) (and_parts _ _ d.0).0
-
-  -- its letters and its bits stand for something
-  pub choices_stand : (r : Result Choices RecordFault) → ChoicesFound m.form m.rounding m.overflow r → IsOk r
-  choices_stand (Ok x) h = refl
-  choices_stand (Err e) h = absurd (some_none e (sym h ∙ (passed (unwritten m.name) m good).lettered))
-
-  pub format_stands : (r : Result FormatType RecordFault) → FormatFound m.whole m.fraction r → IsOk r
-  format_stands (Ok x) h = refl
-  format_stands (Err e) h = absurd (some_none e (sym h ∙ (passed (unwritten m.name) m good).formatted))
 
   pub numerator_passes : numerator_good (length m.forward) ≡ true
   numerator_passes =

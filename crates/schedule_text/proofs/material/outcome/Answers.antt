@@ -3,16 +3,9 @@ use Rattle.wiring.specs.Graphs.{graph_of}
 use Rattle.sheet.specs.Calls.{rows}
 use Rattle.materials.specs.Layout.{meaning}
 use Rattle.materials.specs.Records.{ChoicesFound, FormatFound}
-use Rattle.schedule_text.proofs.Good.{choices_stand, format_stands}
 use Rattle.schedule_text.proofs.Told.{Tells, tells_some, told_call}
 use Rattle.schedule_text.proofs.material.outcome.Goals as goal
 use Rattle.schedule_text.proofs.material.outcome.Goals.{After-told}
-
-pub unwrap-choices-requires : goal.unwrap-choices-requires
-unwrap-choices-requires c = choices_stand (meaning c.args.item.now) c.requires c.choices.result c.choices.ensures
-
-pub unwrap-format-requires : goal.unwrap-format-requires
-unwrap-format-requires c = format_stands (meaning c.args.item.now) c.requires c.format.result c.format.ensures
 
 -- what the sheet's answer tells is so
 tells : (c : After-told) → Tells (meaning c.args.item.now) c.told.result

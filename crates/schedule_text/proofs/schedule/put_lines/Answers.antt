@@ -1,18 +1,10 @@
-use Rattle.std.proofs.Common.{◌≡◌, ◌++◌, map, None, vec_items, ap, ◌∙◌, subst}
-use Rattle.std.proofs.lemmas.List.{take_all}
-use Rattle.std.proofs.ByRecursion.{All-get_or}
-use Rattle.materials.specs.Layout.{meaning}
-use Rattle.materials.specs.Lists.{record_fault}
+use Rattle.std.proofs.Common.{◌≡◌, ◌++◌, vec_items, ap, ◌∙◌}
 use Rattle.schedule_text.specs.Lines.{line}
-use Rattle.schedule_text.specs.Schedules.{LinesOf}
 use Rattle.schedule_text.proofs.Lines.{lines_none, lines_more}
 use Rattle.schedule_text.proofs.schedule.put_lines.Goals as goal
 
 pub loop-item-init : goal.loop-item-init
 loop-item-init c = lines_none (vec_items c.args.text.now)
-
-pub outcome-requires : goal.outcome-requires
-outcome-requires c = ap record_fault c.item-item.is ∙ All-get_or (λ x. record_fault x ≡ None) c.args.records.now c.loop-item.item-index c.item-item.result c.loop-item-test.true c.requires
 
 pub loop-item-preserved : goal.loop-item-preserved
 loop-item-preserved c =
@@ -22,6 +14,3 @@ loop-item-preserved c =
     = c.in_ok-put_line.ensures ∙ ap (λ b. vec_items c.loop-item.text ++ line b c.in_ok-outcome.outcome) c.as_slice.ensures.value in
     lines_more c.args.records.now c.loop-item.item-index x (vec_items c.args.text.now) (vec_items c.loop-item.text) (vec_items c.put_line.new.text) c.in_ok-outcome.outcome
     c.loop-item-test.true c.item-item.is c.loop-item.invariant c.in_ok-outcome.ensures t
-
-pub returns : goal.returns
-returns c = subst (λ rs. LinesOf (map meaning rs) (vec_items c.args.text.now) (vec_items c.loop-item.text)) (take_all c.loop-item.item-index c.args.records.now c.loop-item-test.false) c.loop-item.invariant
