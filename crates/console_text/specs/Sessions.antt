@@ -1,5 +1,6 @@
 -- A session: a record's channel, worked by the lines of an input.
-use Rattle.std.specs.Prelude.{◌≡◌, ℕ, ◌+◌, ◌-◌, ◌^◌, List, ◌++◌, length, ℤ, Some, Option}
+use Rattle.std.specs.Prelude.{◌≡◌, ℕ, ◌+◌, List, ◌++◌, length, ℤ, Some, Option}
+use Rattle.arithmetic.specs.Words.{quarter}
 use Rattle.arithmetic.specs.Choices.{rounding_rule, overflow_rule}
 use Rattle.arithmetic.specs.Settings.{FixedArithmetic}
 use Rattle.arithmetic.specs.declared.choice.RoundingChoice.{RoundingChoice}
@@ -33,7 +34,7 @@ coefficients_in m = m.forward ++ m.back
 
 -- the largest sample that its sheet is asked for: 2^(w-2) for words of w bits
 abbrev pub range_in : ℕ → ℕ
-range_in w = 2 ^ (w - 2)
+range_in = quarter
 
 -- the log of a list of calls on the channel of a filter, by a row of as many places as there are registers
 abbrev pub LoggedCalls : {K V : Type 0} → (K → FixedArithmetic → KindModel V) → K → Setting RoundingChoice OverflowChoice → Graph → List ℤ → Option Limits → List (Call V) → List (Entry V) → Type 0

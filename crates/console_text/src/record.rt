@@ -1,6 +1,5 @@
 //! What a record asks for: its setting, its filter and the limits of its watch.
 ghost use Rattle.std.specs.Prelude.{◌≡◌, ◌+◌, pos, IfOk};
-ghost use Rattle.arithmetic.specs.Formats.{width};
 ghost use Rattle.wiring.specs.Graphs.{graph_of};
 ghost use Rattle.materials.specs.Layout.{meaning};
 ghost use Rattle.console_text.specs.Watching.{SheetLimits};
@@ -8,14 +7,14 @@ ghost use Rattle.console_text.specs.Sessions.{setting_in, wiring_in, coefficient
 
 use crate::halt::Halt;
 use arithmetic::choice::{OverflowChoice, RoundingChoice};
-use arithmetic::format::Format;
 use arithmetic::setting::Setting;
 use channel::state::Limits;
-use forms::form::{Filter, Form};
+use forms::form::Form;
 use materials::letters::Choices;
 use materials::record::Record;
 use sheet::sheet::sheet;
 use std::alloc::Global;
+use wiring::graph::Filter;
 use wiring::limits::MAX_REGISTERS;
 
 /// A setting whose rules are those that a record's letters stand for.
@@ -40,13 +39,6 @@ pub(crate) fn filter_of(heap: Global, item: &Record, form: Form) -> Result<Filte
     Ok(form.build(heap, item.feedforward.as_slice(), item.feedback.as_slice())?)
 }
 
-// The largest sample that the sheet is asked for: 2^(w-2) for words of w bits.
-fn range_of(format: &Format) -> i32
-    ensures { result ≡ pos (range_in (width format.now)) }
-{
-    1i32 << (format.width().bits() - 2)
-}
-
 // The range and the count of the sheet, where it is granted.
 fn sheet_limits(setting: &Chosen, filter: Filter, range: i32) -> Option<Limits>
     ensures { SheetLimits setting.now (graph_of filter.wiring) filter.coefficients.items range result }
@@ -54,16 +46,7 @@ fn sheet_limits(setting: &Chosen, filter: Filter, range: i32) -> Option<Limits>
     let mut peaks = [0u32; MAX_REGISTERS];
     let mut ceilings = [0u64; MAX_REGISTERS];
     let mut band = [0u32; MAX_REGISTERS];
-    let figures = sheet(
-        setting,
-        filter.wiring,
-        filter.coefficients,
-        range,
-        &mut peaks,
-        &mut ceilings,
-        &mut band,
-    )
-    .ok()?;
+    let figures = sheet(setting, filter, range, &mut peaks, &mut ceilings, &mut band).ok()?;
     Some(Limits {
         range: range.unsigned_abs(),
         count: figures.count,
@@ -80,6 +63,6 @@ pub(crate) fn limits_of(
     ensures { IfOk result (SheetLimits setting.now (wiring_in (meaning item.now) form) (coefficients_in (meaning item.now)) (pos (range_in (item.now.whole_bits + item.now.fraction_bits)))) }
 {
     let filter = filter_of(heap, item, form)?;
-    let range = range_of(&item.format()?);
+    let range = item.format()?.width().quarter();
     Ok(sheet_limits(setting, filter, range))
 }

@@ -16,7 +16,6 @@ use crate::script::read_script;
 use crate::show::Shown;
 use crate::text::session_text;
 use channel::state::Limits;
-use forms::form::Filter;
 use kinds::bounds::BoundKind;
 use kinds::enclosures::EnclosedKind;
 use kinds::kind::Kind;
@@ -28,6 +27,7 @@ use materials::refusal::Refusal;
 use replay::log::{Call, Entry};
 use replay::replay::replay;
 use std::alloc::Global;
+use wiring::graph::Filter;
 
 // The log of a list of calls on the channel of a filter.
 fn replayed<K: Kind + Drop>(
@@ -43,16 +43,7 @@ fn replayed<K: Kind + Drop>(
     ensures { IfOk result (λ log. LoggedCalls K.Kind.model kind setting.now (graph_of filter.wiring) filter.coefficients.items limits calls.now log.items) }
 {
     let mut row = rows.register_row(heap)?;
-    Ok(replay(
-        heap,
-        kind,
-        setting,
-        filter.wiring,
-        filter.coefficients,
-        limits,
-        &mut row,
-        calls,
-    )?)
+    Ok(replay(heap, kind, setting, filter, limits, &mut row, calls)?)
 }
 
 /// The text of a session on a record's channel over a kind of value: the first line, with the kind's name, then the answer to each line of the input.

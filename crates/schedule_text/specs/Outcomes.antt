@@ -1,5 +1,6 @@
 -- What the schedule tells of a material. Assumes nothing.
-use Rattle.std.specs.Prelude.{◌≡◌, ℕ, ◌+◌, ◌-◌, ◌^◌, List, ◌++◌, length, ℤ, Some, None, Ok, Err, vec_items, Option, Result}
+use Rattle.std.specs.Prelude.{◌≡◌, ℕ, ◌+◌, List, ◌++◌, length, ℤ, Some, None, Ok, Err, vec_items, Option, Result}
+use Rattle.arithmetic.specs.Words.{quarter}
 use Rattle.arithmetic.specs.Choices.{rounding_rule, overflow_rule}
 use Rattle.arithmetic.specs.Settings.{FixedArithmetic}
 use Rattle.arithmetic.specs.declared.choice.RoundingChoice.{RoundingChoice}
@@ -20,9 +21,9 @@ use Rattle.materials.specs.Letters.{form_of, rounding_of, overflow_of}
 use Rattle.schedule_text.specs.declared.outcome.Outcome.{Outcome}
 use Rattle.schedule_text.specs.declared.outcome.Outcome.TheVariants.{Fits, NoSheet}
 
--- the largest sample for words of w bits
+-- the largest sample for words of w bits: a quarter of them
 abbrev pub range_in : ℕ → ℕ
-range_in w = 2 ^ (w - 2)
+range_in = quarter
 
 abbrev pub range_of : Material → ℕ
 range_of m = range_in (m.whole + m.fraction)

@@ -1,18 +1,17 @@
 //! One material: its filter, the call for its sheet, and what that tells.
-ghost use Rattle.std.specs.Prelude.{◌≡◌, pos, IfOk, None};
-ghost use Rattle.arithmetic.specs.Formats.{width};
+ghost use Rattle.std.specs.Prelude.{◌≡◌, IfOk, None};
 ghost use Rattle.materials.specs.Layout.{meaning};
 ghost use Rattle.materials.specs.Lists.{record_fault};
-ghost use Rattle.schedule_text.specs.Outcomes.{OutcomeOf, FilterOf, range_in, told_by};
+ghost use Rattle.schedule_text.specs.Outcomes.{OutcomeOf, FilterOf, told_by};
 
 use crate::outcome::Outcome;
-use arithmetic::format::Format;
 use arithmetic::setting::Setting;
-use forms::form::{Filter, Form, FormFault};
+use forms::form::{Form, FormFault};
 use materials::record::Record;
 use sheet::figures::{Figures, SheetFault};
 use sheet::sheet::sheet;
 use std::alloc::{AllocError, Global};
+use wiring::graph::Filter;
 use wiring::limits::MAX_REGISTERS;
 
 // The filter of a good record in a form.
@@ -27,13 +26,6 @@ fn filter(heap: Global, form: Form, item: &Record) -> Result<Filter, AllocError>
             FormFault::Numerator | FormFault::Denominator => unreachable!(),
         },
     }
-}
-
-// The range of samples that the schedule is made for: half of the largest.
-fn range(format: &Format) -> i32
-    ensures { result ≡ pos (range_in (width format.now)) }
-{
-    1i32 << (format.width().bits() - 2)
 }
 
 // What the schedule tells of the call for a sheet, unless the call itself was refused.
@@ -69,9 +61,8 @@ pub(crate) fn outcome(heap: Global, item: &Record) -> Result<Outcome, AllocError
     let mut band = [0u32; MAX_REGISTERS];
     let answer = sheet(
         &setting,
-        filter.wiring,
-        filter.coefficients,
-        range(&format),
+        filter,
+        format.width().quarter(),
         &mut peaks,
         &mut ceilings,
         &mut band,

@@ -1,4 +1,4 @@
-use Rattle.std.proofs.Common.{◌+◌, pos, vec_items, ◌∙◌, w32, rules}
+use Rattle.std.proofs.Common.{◌+◌, pos, vec_items, ap, ◌∙◌, w32, rules}
 use Rattle.std.proofs.lemmas.Int.{to_z-of_z}
 use Rattle.wiring.specs.Graphs.{graph_of}
 use Rattle.materials.specs.Layout.{meaning}
@@ -13,4 +13,4 @@ returns c =
     let built = c.in_ok-filter.ensures in
     let bits = c.in_ok-format.ensures in
     limits_same c.args.setting.now (graph_of filter.wiring) (wiring_in m c.args.form) (vec_items filter.coefficients) (coefficients_in m) _ (pos (range_in (m.whole + m.fraction))) c.sheet_limits.result
-    built.0 built.1 (to_z-of_z w32 c.range_of-range.result (search rules) ∙ (c.range_of-range.ensures ∙ (λ i. pos (range_in (bits.1 i + bits.2 i))))) c.sheet_limits.ensures
+    built.0 built.1 (to_z-of_z w32 c.quarter-range.result (search rules) ∙ (c.quarter-range.ensures ∙ ap (λ w. pos (range_in w)) c.width.ensures ∙ (λ i. pos (range_in (bits.1 i + bits.2 i))))) c.sheet_limits.ensures
