@@ -46,6 +46,7 @@ fn add_row<T: Drop, F: Fn(usize) -> T>(
     requires { (i : ℕ) → i < length coefficients.now → F.pre make i }
     ensures { (f : ℕ → T) → GivesBelow (length coefficients.now) (F.post make) f → OnOk result (row.new.items ≡ row.old.items ++ listed f (length coefficients.now)) }
 {
+    // A loop and not `extend`: a rule of the project wants loops over the coefficients' elements with their index here.
     for (i, _) in coefficients.iter().enumerate() {
         row.push(make(i))?;
     }

@@ -55,6 +55,7 @@ pub(crate) fn add_totals(
     ensures nodes { let N = length lists.entry.b.now - 1 in let M = length lists.entry.a.now in OnOk result (nodes.new.items ≡ nodes.old.items ++ flat_map (totals_of (vec_len nodes.old) first back N M) (range_with_len 0 (max N M))) }
     ensures sources { let N = length lists.entry.b.now - 1 in let M = length lists.entry.a.now in OnOk result (sources.new.items ≡ sources.old.items ++ listed (end_of (vec_len nodes.old) first back N M) (max N M)) }
 {
+    // A loop over the coefficients' elements with their index, as a rule of the project wants it here.
     for (i, _) in lists.longer().iter().enumerate() {
         let end = add_total(nodes, i, first, back, lists)?;
         sources.push(end)?;
