@@ -1,24 +1,21 @@
 -- The steps of the two loops, at rows.
-use Rattle.std.proofs.Common.{◌≡◌, ℕ, zero, suc, ◌+◌, ◌<◌, ◌≤◌, List, [], ◌∷◌, map, length, get_or, take, drop, replicate, ℤ, pos, Ok, Err, sym, refl, ap, ◌∙◌, subst, arith}
+use Rattle.std.proofs.Common.{◌≡◌, ℕ, zero, suc, ◌+◌, ◌<◌, ◌≤◌, List, [], ◌∷◌, map, length, get_or, take, drop, replicate, ℤ, pos, nat_abs, Ok, Err, sym, refl, ap, ◌∙◌, subst, arith}
 use Rattle.std.proofs.lemmas.List.{length-map, take_at}
 use Rattle.arithmetic.specs.Rounding.{RoundingRule, LawfulRounding}
 use Rattle.arithmetic.specs.Overflow.{OverflowRule, LawfulOverflow}
-use Rattle.arithmetic.specs.Settings.{FixedArithmetic, Lawful}
+use Rattle.arithmetic.specs.Settings.{Lawful}
 use Rattle.kinds.specs.declared.refusal.Refusal.{Refusal}
 use Rattle.kinds.specs.declared.values.Bound.{Bound}
 use Rattle.kinds.specs.Bounds.{bound_arithmetic}
-use Rattle.wiring.specs.declared.program.Program.{Program}
-use Rattle.wiring.specs.declared.faults.RunFault.TheVariants.{Node as OfRun}
-use Rattle.wiring.specs.Graphs.{Graph}
-use Rattle.wiring.proofs.Soundness.{sound_source}
 use Rattle.wiring.specs.Lists.{Each₂}
 use Rattle.wiring.specs.Runs.{Worked, run, registers_after}
 use Rattle.sheet.specs.declared.figures.SheetFault.{SheetFault}
 use Rattle.sheet.specs.declared.figures.SheetFault.TheVariants.{Format, Program as OfProgram, PeaksRow, CeilingsRow, BandRow, Range, Node}
 use Rattle.sheet.specs.declared.rounds.Rounds.{Rounds}
+use Rattle.sheet.specs.declared.rounds.BoundRows.{BoundRows}
 use Rattle.sheet.specs.Rounds.{round}
-use Rattle.sheet.specs.Sheets.{Below, Closed, Falls, Nowhere}
-use Rattle.sheet.specs.Searching.{none, IsAtNode, program_graph, program_list, box_in, sources_in, peaks_of, Raised, Lowered, NotLowered, Holds, Least, rounds_meaning}
+use Rattle.sheet.specs.Sheets.{Below, Closed}
+use Rattle.sheet.specs.Searching.{none, IsAtNode, box_in, peaks_of, Raised, Lowered, NotLowered, Holds, rounds_graph, rounds_list, held_box, made_box, made_output, rounds_meaning, RoundAnswer, SearchAnswer, FallsTo}
 use Rattle.sheet.proofs.Places.{total}
 use Rattle.sheet.proofs.Boxes.{Met, Sunk, distance, met_more, met_closed, met_refused, nearer, closed_more, sinks, sunk_more, sunk_all}
 
@@ -32,52 +29,74 @@ zeros_in [] n h = refl
 zeros_in (s ∷ ss) zero h = absurd (omega arith)
 zeros_in (s ∷ ss) (suc n) h = ap (λ l. none ∷ l) (zeros_in ss n (omega arith))
 
-module _ (g : Graph) (row after next : List Bound) (moved : next ≡ registers_after none g row after) where
-  pub next_box : (r : Worked Bound) → sources_in g.sources after ≡ r.registers → box_in g next ≡ r.registers
-  next_box r e = ap (box_in g) moved ∙ take_at (sources_in g.sources after) (drop (length g.sources) row) (length g.sources) (length-map g.sources (λ s. get_or after s none)) ∙ e
+module _ {R O : Type 0} {r : R → RoundingRule} {o : O → OverflowRule} (lr : (x : R) → LawfulRounding (r x)) (lo : (x : O) → LawfulOverflow (o x)) (a : Rounds R O) (before after : BoundRows) where
+  -- all registers take what the round made
+  next_box : (next : BoundRows) → next ≡ record after { registers = registers_after none (rounds_graph a) after.registers after.working } → (w : Worked Bound) → Holds (rounds_graph a) w after.working → w.registers ≡ held_box a next
+  next_box next moved w holds =
+      let ss = (rounds_graph a).sources in
+      sym (ap (held_box a) moved ∙ take_at (made_box a after) (drop (length ss) after.registers) (length ss) (length-map ss (λ s. get_or after.working s none)) ∙ holds.sources)
 
-module _ (s : FixedArithmetic) (law : Lawful s) (g : Graph) (cs : List ℤ) (X : ℕ) (u : ℤ) (at-X : u ≡ pos X) (row after : List Bound) (r : Worked Bound)
-    (made : run (bound_arithmetic s) g cs (box_in g row) u ≡ Ok r) (holds : Holds g r after) (met : Met s g cs X (box_in g row)) where
-  taken_at : round s g cs X (box_in g row) ≡ Ok r
-  taken_at = ap (λ (v : ℤ). run (bound_arithmetic s) g cs (box_in g row) v) (sym at-X) ∙ made
+  -- ---- a round of the search, with the input (X, 0)
+  module _ (u : ℤ) (positive : pos (nat_abs u) ≡ u) (done : RoundAnswer r o a u before (Ok tt) after) (met : Met (rounds_meaning r o a) (rounds_graph a) (rounds_list a) (nat_abs u) (held_box a before)) where
+    taken_at : round (rounds_meaning r o a) (rounds_graph a) (rounds_list a) (nat_abs u) (held_box a after) ≡ Ok done.1
+    taken_at = ap (λ (v : ℤ). run (bound_arithmetic (rounds_meaning r o a)) (rounds_graph a) (rounds_list a) (held_box a after) v) positive ∙ done.2
 
-  module _ (next : List Bound) (moved : next ≡ registers_after none g row after) where
-    -- a round more
-    pub close_again : Met s g cs X (box_in g next)
-    close_again = subst (Met s g cs X) (sym (next_box g row after next moved r holds.sources)) (met_more s law g cs X (box_in g row) r met taken_at)
+    met_here : Met (rounds_meaning r o a) (rounds_graph a) (rounds_list a) (nat_abs u) (held_box a after)
+    met_here = subst (λ l. Met (rounds_meaning r o a) (rounds_graph a) (rounds_list a) (nat_abs u) (box_in (rounds_graph a) l)) (sym done.0) met
 
-    pub close_less : Raised (box_in g row) (sources_in g.sources after) → distance s g (box_in g next) < distance s g (box_in g row)
-    close_less up =
-        let raised : Raised (box_in g row) r.registers = subst (λ l. Raised (box_in g row) l) holds.sources up in
-        subst (λ l. distance s g l < distance s g (box_in g row)) (sym (next_box g row after next moved r holds.sources)) (nearer s law g cs X (box_in g row) r met taken_at raised)
+    -- the last one
+    pub close_ends : Each₂ Below (made_box a after) (held_box a after) → SearchAnswer r o a (nat_abs u) (Ok after)
+    close_ends h =
+        met_closed (rounds_meaning r o a) (lawful lr lo a) (rounds_graph a) (rounds_list a) (nat_abs u) (held_box a after) done.1 (made_output a after) met_here taken_at
+        (subst (λ l. Each₂ Below l (held_box a after)) done.3.sources h) done.3.output
 
-  -- the last round
-  pub close_ends : Each₂ Below (sources_in g.sources after) (box_in g row) → Least s g cs X (box_in g row) (get_or after g.output none)
-  close_ends h = met_closed s law g cs X (box_in g row) r (get_or after g.output none) met taken_at (subst (λ l. Each₂ Below l (box_in g row)) holds.sources h) holds.output
+    module _ (next : BoundRows) (moved : next ≡ record after { registers = registers_after none (rounds_graph a) after.registers after.working }) where
+      -- one more
+      pub close_again : Met (rounds_meaning r o a) (rounds_graph a) (rounds_list a) (nat_abs u) (held_box a next)
+      close_again =
+          subst (Met (rounds_meaning r o a) (rounds_graph a) (rounds_list a) (nat_abs u)) (next_box next moved done.1 done.3)
+          (met_more (rounds_meaning r o a) (lawful lr lo a) (rounds_graph a) (rounds_list a) (nat_abs u) (held_box a after) done.1 met_here taken_at)
 
-module _ (s : FixedArithmetic) (law : Lawful s) (g : Graph) (cs : List ℤ) (row after : List Bound) (r : Worked Bound)
-    (made : run (bound_arithmetic s) g cs (box_in g row) (pos 0) ≡ Ok r) (holds : Holds g r after)
-    (start : List Bound) (n : ℕ) (closed : Closed s g cs 0 (box_in g row)) (sunk : Sunk s g cs (box_in g start) n (box_in g row)) where
-  module _ (next : List Bound) (moved : next ≡ registers_after none g row after) (low : Lowered (box_in g row) (sources_in g.sources after)) where
-    lowered : Lowered (box_in g row) r.registers
-    lowered = subst (λ l. Lowered (box_in g row) l) holds.sources low
+      pub close_less : Raised (held_box a after) (made_box a after) → distance (rounds_meaning r o a) (rounds_graph a) (held_box a next) < distance (rounds_meaning r o a) (rounds_graph a) (held_box a before)
+      close_less up =
+          let less = nearer (rounds_meaning r o a) (lawful lr lo a) (rounds_graph a) (rounds_list a) (nat_abs u) (held_box a after) done.1 met_here taken_at (subst (λ l. Raised (held_box a after) l) done.3.sources up) in
+          subst (λ l. distance (rounds_meaning r o a) (rounds_graph a) (held_box a next) < distance (rounds_meaning r o a) (rounds_graph a) (box_in (rounds_graph a) l)) done.0
+          (subst (λ l. distance (rounds_meaning r o a) (rounds_graph a) l < distance (rounds_meaning r o a) (rounds_graph a) (held_box a after)) (next_box next moved done.1 done.3) less)
 
-    is_next : r.registers ≡ box_in g next
-    is_next = sym (next_box g row after next moved r holds.sources)
+  -- ---- a round with input 0, after n that lowered a peak
+  module _ (done : RoundAnswer r o a (pos 0) before (Ok tt) after) (start : BoundRows) (n : ℕ) (closed : Closed (rounds_meaning r o a) (rounds_graph a) (rounds_list a) 0 (held_box a before))
+      (sunk : Sunk (rounds_meaning r o a) (rounds_graph a) (rounds_list a) (held_box a start) n (held_box a before)) where
+    closed_here : Closed (rounds_meaning r o a) (rounds_graph a) (rounds_list a) 0 (held_box a after)
+    closed_here = subst (λ l. Closed (rounds_meaning r o a) (rounds_graph a) (rounds_list a) 0 (box_in (rounds_graph a) l)) (sym done.0) closed
 
-    pub settle_closed : Closed s g cs 0 (box_in g next)
-    settle_closed = subst (Closed s g cs 0) is_next (closed_more s law g cs (box_in g row) r closed made)
+    sunk_here : Sunk (rounds_meaning r o a) (rounds_graph a) (rounds_list a) (held_box a start) n (held_box a after)
+    sunk_here = subst (λ l. Sunk (rounds_meaning r o a) (rounds_graph a) (rounds_list a) (held_box a start) n (box_in (rounds_graph a) l)) (sym done.0) sunk
 
-    pub settle_sunk : Sunk s g cs (box_in g start) (n + 1) (box_in g next)
-    settle_sunk = subst (Sunk s g cs (box_in g start) (n + 1)) is_next (sunk_more s law g cs (box_in g start) (box_in g row) n r sunk closed made lowered)
+    -- it lowers none
+    pub settle_ends : Each₂ NotLowered (held_box a after) (made_box a after) → FallsTo r o a start n after
+    settle_ends h =
+        sunk_all (rounds_meaning r o a) (lawful lr lo a) (rounds_graph a) (rounds_list a) (held_box a start) (held_box a after) n done.1 (made_output a after).peak sunk_here done.2
+        (subst (λ l. Each₂ NotLowered (held_box a after) l) done.3.sources h) (ap (λ (b : Bound). b.peak) done.3.output)
 
-    pub settle_less : total (peaks_of (box_in g next)) < total (peaks_of (box_in g row))
-    settle_less = subst (λ l. total (peaks_of l) < total (peaks_of (box_in g row))) is_next (sinks s law g cs (box_in g row) r closed made lowered)
+    module _ (low : Lowered (held_box a after) (made_box a after)) (next : BoundRows) (moved : next ≡ record after { registers = registers_after none (rounds_graph a) after.registers after.working }) where
+      lowered : Lowered (held_box a after) done.1.registers
+      lowered = subst (λ l. Lowered (held_box a after) l) done.3.sources low
 
-  pub settle_ends : Each₂ NotLowered (box_in g row) (sources_in g.sources after) → Falls s g cs (peaks_of (box_in g start)) n (peaks_of (box_in g row)) (get_or after g.output none).peak
-  settle_ends h =
-      sunk_all s law g cs (box_in g start) (box_in g row) n r (get_or after g.output none).peak sunk made
-      (subst (λ l. Each₂ NotLowered (box_in g row) l) holds.sources h) (ap (λ (b : Bound). b.peak) holds.output)
+      pub settle_closed : Closed (rounds_meaning r o a) (rounds_graph a) (rounds_list a) 0 (held_box a next)
+      settle_closed =
+          subst (Closed (rounds_meaning r o a) (rounds_graph a) (rounds_list a) 0) (next_box next moved done.1 done.3)
+          (closed_more (rounds_meaning r o a) (lawful lr lo a) (rounds_graph a) (rounds_list a) (held_box a after) done.1 closed_here done.2)
+
+      pub settle_sunk : Sunk (rounds_meaning r o a) (rounds_graph a) (rounds_list a) (held_box a start) (n + 1) (held_box a next)
+      settle_sunk =
+          subst (Sunk (rounds_meaning r o a) (rounds_graph a) (rounds_list a) (held_box a start) (n + 1)) (next_box next moved done.1 done.3)
+          (sunk_more (rounds_meaning r o a) (lawful lr lo a) (rounds_graph a) (rounds_list a) (held_box a start) (held_box a after) n done.1 sunk_here closed_here done.2 lowered)
+
+      pub settle_less : total (peaks_of (held_box a next)) < total (peaks_of (held_box a before))
+      settle_less =
+          let less = sinks (rounds_meaning r o a) (lawful lr lo a) (rounds_graph a) (rounds_list a) (held_box a after) done.1 closed_here done.2 lowered in
+          subst (λ l. total (peaks_of (held_box a next)) < total (peaks_of (box_in (rounds_graph a) l))) done.0
+          (subst (λ l. total (peaks_of l) < total (peaks_of (held_box a after))) (next_box next moved done.1 done.3) less)
 
 -- what follows from a node's refusal
 at_node : {P Q : ℕ → Refusal → Type 0} → ((k : ℕ) (e : Refusal) → P k e → Q k e) → (f : SheetFault) → IsAtNode P f → IsAtNode Q f
@@ -90,10 +109,8 @@ at_node h BandRow p = p
 at_node h Range p = p
 
 -- a round that refuses
-pub close_refused : (s : FixedArithmetic) (law : Lawful s) (g : Graph) (cs : List ℤ) (X : ℕ) (u : ℤ) → u ≡ pos X → (row : List Bound) → Met s g cs X (box_in g row)
-    → (f : SheetFault) → IsAtNode (λ k e. run (bound_arithmetic s) g cs (box_in g row) u ≡ Err (OfRun k e)) f → IsAtNode (Nowhere s g cs X) f
-close_refused s law g cs X u at-X row m = at_node (λ k e h. met_refused s law g cs X (box_in g row) k e m (ap (λ (v : ℤ). run (bound_arithmetic s) g cs (box_in g row) v) (sym at-X) ∙ h))
-
--- a program's sources are nodes that are there
-pub source_there : (p : Program) (i : ℕ) → i < length (program_graph p).sources → get_or (program_graph p).sources i 0 < length (program_graph p).nodes
-source_there p i h = sound_source (program_graph p) (program_list p) p.sound i h
+pub close_refused : {R O : Type 0} {r : R → RoundingRule} {o : O → OverflowRule} → ((x : R) → LawfulRounding (r x)) → ((x : O) → LawfulOverflow (o x)) → (a : Rounds R O) (before after : BoundRows) (u : ℤ) → pos (nat_abs u) ≡ u
+    → Met (rounds_meaning r o a) (rounds_graph a) (rounds_list a) (nat_abs u) (held_box a before) → (f : SheetFault) → RoundAnswer r o a u before (Err f) after → SearchAnswer r o a (nat_abs u) (Err f)
+close_refused {r = r} {o = o} lr lo a before after u positive met =
+    at_node (λ k e h. met_refused (rounds_meaning r o a) (lawful lr lo a) (rounds_graph a) (rounds_list a) (nat_abs u) (held_box a before) k e met
+    (ap (λ (v : ℤ). run (bound_arithmetic (rounds_meaning r o a)) (rounds_graph a) (rounds_list a) (held_box a before) v) positive ∙ h))

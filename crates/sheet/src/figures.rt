@@ -39,8 +39,8 @@ impl From<FormatFault> for SheetFault {
 
     ghost from_gives = { λ e f. f ≡ Format e };
 
-    fn from(fault: FormatFault) -> SheetFault {
-        SheetFault::Format(fault)
+    fn from(fault: FormatFault) -> Self {
+        Self::Format(fault)
     }
 }
 
@@ -50,8 +50,8 @@ impl From<ProgramFault> for SheetFault {
 
     ghost from_gives = { λ e f. f ≡ Program e };
 
-    fn from(fault: ProgramFault) -> SheetFault {
-        SheetFault::Program(fault)
+    fn from(fault: ProgramFault) -> Self {
+        Self::Program(fault)
     }
 }
 
