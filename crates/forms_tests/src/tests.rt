@@ -1,8 +1,8 @@
-use forms::form::{Filter, Form, FormFault};
+use forms::form::{Form, FormFault};
 use std::alloc::Global;
 use std::process::Abort;
 use std::test::Fail;
-use wiring::graph::Node;
+use wiring::graph::{Filter, Node};
 
 // A coefficient times a node.
 fn scale(node: usize, coefficient: usize) -> Node {

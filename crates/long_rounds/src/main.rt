@@ -7,7 +7,7 @@ use arithmetic::setting::Setting;
 use sheet::sheet::sheet;
 use std::alloc::{AllocError, Global};
 use std::io;
-use wiring::graph::{Node, Wiring};
+use wiring::graph::{Filter, Node, Wiring};
 
 // y = u + y1, in direct form 1.
 fn undamped(heap: Global) -> Result<Wiring, AllocError> {
@@ -42,8 +42,10 @@ fn main(rt: HostRuntime) -> io::Result<()> {
     };
     let answer = sheet(
         &setting,
-        undamped(heap)?,
-        [16, -16].to_vec(heap)?,
+        Filter {
+            wiring: undamped(heap)?,
+            coefficients: [16, -16].to_vec(heap)?,
+        },
         0,
         &mut [0],
         &mut [0],

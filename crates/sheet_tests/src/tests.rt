@@ -1,35 +1,12 @@
 use arithmetic::overflow::Wrap;
 use arithmetic::rounding::{Floor, Rounding, TowardZero};
 use arithmetic::setting::Setting;
+use forms::form::{Form, FormFault};
 use kinds::refusal::Refusal;
 use sheet::figures::{Figures, SheetFault};
 use sheet::sheet::sheet;
-use std::alloc::{AllocError, Global};
+use std::alloc::Global;
 use std::test::Fail;
-use wiring::graph::{Node, Wiring};
-
-// A wall panel in direct form 1: y = b0 × u - a1 × y1.
-fn panel(heap: Global) -> Result<Wiring, AllocError> {
-    let nodes = [
-        Node::Input,
-        Node::Register(0),
-        Node::Scale {
-            node: 0,
-            coefficient: 0,
-        },
-        Node::Scale {
-            node: 1,
-            coefficient: 1,
-        },
-        Node::Difference(2, 3),
-    ];
-    Ok(Wiring {
-        nodes: nodes.to_vec(heap)?,
-        coefficients: 2,
-        output: 4,
-        sources: [4usize].to_vec(heap)?,
-    })
-}
 
 // Three rows with a place more than the panel has registers.
 #[derive(Clone, Copy)]
@@ -45,16 +22,17 @@ const LENT: Rows = Rows {
     band: [9, 9],
 };
 
-// The panel's sheet in format 4.4, into rows of any length.
+// The sheet of y = b × u - a × y1, of coefficients b and a, in direct form 1 and format 4.4, into rows of any length.
 fn lent_sheet<R: Rounding>(
     heap: Global,
     rounding: R,
-    list: &[i32],
+    list: [i32; 2],
     range: i32,
     peaks: &mut [u32],
     ceilings: &mut [u64],
     band: &mut [u32],
-) -> Result<Result<Figures, SheetFault>, AllocError> {
+) -> Result<Result<Figures, SheetFault>, FormFault> {
+    let [b, a] = list;
     let setting = Setting {
         whole: 4,
         fraction: 4,
@@ -63,8 +41,7 @@ fn lent_sheet<R: Rounding>(
     };
     Ok(sheet(
         &setting,
-        panel(heap)?,
-        list.to_vec(heap)?,
+        Form::Direct1.build(heap, &[b], &[a])?,
         range,
         peaks,
         ceilings,
@@ -76,10 +53,10 @@ fn lent_sheet<R: Rounding>(
 fn panel_sheet<R: Rounding>(
     heap: Global,
     rounding: R,
-    list: &[i32],
+    list: [i32; 2],
     range: i32,
     rows: &mut Rows,
-) -> Result<Result<Figures, SheetFault>, AllocError> {
+) -> Result<Result<Figures, SheetFault>, FormFault> {
     lent_sheet(
         heap,
         rounding,
@@ -94,7 +71,7 @@ fn panel_sheet<R: Rounding>(
 #[test]
 fn panel_toward_zero(rt: HostRuntime) -> Result<(), Fail> {
     let mut rows = LENT;
-    let figures = panel_sheet(rt.alloc(), TowardZero, &[8, -8], 64, &mut rows)?;
+    let figures = panel_sheet(rt.alloc(), TowardZero, [8, -8], 64, &mut rows)?;
     assert_eq!(rt;
         figures,
         Ok(Figures {
@@ -114,7 +91,7 @@ fn panel_toward_zero(rt: HostRuntime) -> Result<(), Fail> {
 #[test]
 fn panel_down(rt: HostRuntime) -> Result<(), Fail> {
     let mut rows = LENT;
-    let figures = panel_sheet(rt.alloc(), Floor, &[8, -8], 64, &mut rows)?;
+    let figures = panel_sheet(rt.alloc(), Floor, [8, -8], 64, &mut rows)?;
     assert_eq!(rt;
         figures,
         Ok(Figures {
@@ -134,7 +111,7 @@ fn panel_down(rt: HostRuntime) -> Result<(), Fail> {
 #[test]
 fn no_damping_has_no_sheet(rt: HostRuntime) -> Result<(), Fail> {
     let mut rows = LENT;
-    let figures = panel_sheet(rt.alloc(), TowardZero, &[16, -16], 1, &mut rows)?;
+    let figures = panel_sheet(rt.alloc(), TowardZero, [16, -16], 1, &mut rows)?;
     assert_eq!(rt; figures, Err(SheetFault::Node(4, Refusal::Peak)));
     assert_eq!(rt;
         (rows.peaks, rows.ceilings, rows.band),
@@ -148,11 +125,11 @@ fn range_is_a_word_from_zero_up(rt: HostRuntime) -> Result<(), Fail> {
     let heap = rt.alloc();
     let mut rows = LENT;
     assert_eq!(rt;
-        panel_sheet(heap, TowardZero, &[8, -8], 128, &mut rows)?,
+        panel_sheet(heap, TowardZero, [8, -8], 128, &mut rows)?,
         Err(SheetFault::Range)
     );
     assert_eq!(rt;
-        panel_sheet(heap, TowardZero, &[8, -8], -1, &mut rows)?,
+        panel_sheet(heap, TowardZero, [8, -8], -1, &mut rows)?,
         Err(SheetFault::Range)
     );
     assert_eq!(rt;
@@ -160,7 +137,7 @@ fn range_is_a_word_from_zero_up(rt: HostRuntime) -> Result<(), Fail> {
         ([9, 9], [9, 9], [9, 9])
     );
     assert_eq!(rt;
-        panel_sheet(heap, TowardZero, &[8, -8], 0, &mut rows)?,
+        panel_sheet(heap, TowardZero, [8, -8], 0, &mut rows)?,
         Ok(Figures {
             peak: 0,
             ceiling: 16384,
@@ -169,7 +146,7 @@ fn range_is_a_word_from_zero_up(rt: HostRuntime) -> Result<(), Fail> {
         })
     );
     assert_eq!(rt;
-        panel_sheet(heap, TowardZero, &[8, -8], 127, &mut rows)?,
+        panel_sheet(heap, TowardZero, [8, -8], 127, &mut rows)?,
         Ok(Figures {
             peak: 125,
             ceiling: 16384,
@@ -188,19 +165,35 @@ fn short_rows_come_before_the_range(rt: HostRuntime) -> Result<(), Fail> {
     let mut ceilings = [9u64];
     let mut band = [9u32];
     assert_eq!(rt;
-        lent_sheet(heap, TowardZero, &list, 128, &mut [], &mut [], &mut [])?,
+        lent_sheet(heap, TowardZero, list, 128, &mut [], &mut [], &mut [])?,
         Err(SheetFault::PeaksRow)
     );
     assert_eq!(rt;
-        lent_sheet(heap, TowardZero, &list, 128, &mut peaks, &mut [], &mut [])?,
+        lent_sheet(heap, TowardZero, list, 128, &mut peaks, &mut [], &mut [])?,
         Err(SheetFault::CeilingsRow)
     );
     assert_eq!(rt;
-        lent_sheet(heap, TowardZero, &list, 128, &mut peaks, &mut ceilings, &mut [])?,
+        lent_sheet(
+            heap,
+            TowardZero,
+            list,
+            128,
+            &mut peaks,
+            &mut ceilings,
+            &mut []
+        )?,
         Err(SheetFault::BandRow)
     );
     assert_eq!(rt;
-        lent_sheet(heap, TowardZero, &list, 128, &mut peaks, &mut ceilings, &mut band)?,
+        lent_sheet(
+            heap,
+            TowardZero,
+            list,
+            128,
+            &mut peaks,
+            &mut ceilings,
+            &mut band
+        )?,
         Err(SheetFault::Range)
     );
     assert_eq!(rt; (peaks, ceilings, band), ([9], [9], [9]));
