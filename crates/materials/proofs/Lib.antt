@@ -4,7 +4,6 @@ pub mod Bytes
 pub mod Places
 pub mod Writes
 pub mod Chains
-pub mod Eights
 pub mod Turns
 pub mod Back
 pub mod Again

@@ -1,8 +1,8 @@
 -- One turn of the loops over a file's records. Assumes nothing.
 use Rattle.std.proofs.Common.{◌≡◌, ℕ, zero, suc, ◌+◌, ◌<◌, ◌≤◌, Bool, true, false, cond, ◌||◌, List, [], ◌∷◌, ◌++◌, map, length, get_or, take, drop, Some, None, Option, sym, refl, ap, ◌∙◌, subst, ⊎_elim, add-one, arith}
-use Rattle.std.specs.List.{AllByRecursion}
+use Rattle.std.specs.List.{AllByRecursion, list_any, range_with_len}
 use Rattle.std.specs.Str.{bytes_eq}
-use Rattle.std.proofs.lemmas.List.{length-map, length-take, at_drop_more, at_drop_all, get_or-map, get_or-take, map_more, drop_all}
+use Rattle.std.proofs.lemmas.List.{length-map, length-take, drop_more, at_drop_more, at_drop_all, get_or-map, get_or-take, map_more, drop_all}
 use Rattle.std.proofs.lemmas.Bool.{or_parts, both_ways, cases_order}
 use Rattle.std.proofs.lemmas.Slice.Eq.{bytes_eq-Decides}
 use Rattle.materials.specs.declared.refusal.RecordFault.{RecordFault}
@@ -26,6 +26,15 @@ has_name_drop : (ms : List (List ℕ)) (i : ℕ) (n : List ℕ) → has_name ms 
 has_name_drop [] i n h = ap (λ l. has_name l n) (drop_all i [] (omega arith))
 has_name_drop (m ∷ ms) zero n h = h
 has_name_drop (m ∷ ms) (suc i) n h = has_name_drop ms i n (or_parts (bytes_eq m n) (has_name ms n) h).1
+
+-- the places below a number are the elements before it
+pub any_below : {X : Type 0} (q : X → Bool) (xs : List X) (d : X) (a n : ℕ) → a + n ≤ length xs → list_any (λ j. q (get_or xs j d)) (range_with_len a n) ≡ list_any q (take n (drop a xs))
+any_below q xs d a zero h = refl
+any_below q xs d a (suc n) h = (λ i. q (get_or xs a d) || any_below q xs d (a + 1) n (omega arith) i) ∙ sym (ap (λ l. list_any q (take (suc n) l)) (drop_more xs a d (omega arith)))
+
+pub any_map : {X Y : Type 0} (q : Y → Bool) (g : X → Y) (xs : List X) → list_any q (map g xs) ≡ list_any (λ x. q (g x)) xs
+any_map q g [] = refl
+any_map q g (x ∷ xs) = ap (λ b. q (g x) || b) (any_map q g xs)
 
 -- the list is of the parts of a file, or of the materials to be written
 module _ {X : Type 0} (own : X → Option RecordFault) (called : X → List ℕ) (xs : List X) where
@@ -61,28 +70,28 @@ module _ {X : Type 0} (own : X → Option RecordFault) (called : X → List ℕ)
       let k : j < length (below i) = rw (length_called own called xs i h) l in
       at_drop_more (λ m. has_name m n) (below i) j [] k ∙ ap (λ x. bytes_eq x n || has_name (drop (j + 1) (below i)) n) (called_at i j h l)
 
-  abbrev after_own : ℕ → Option RecordFault
+  abbrev pub after_own : ℕ → Option RecordFault
   after_own i = or_else (own (get_or xs i d)) (used_fault (below i) (called (get_or xs i d)))
+
+  -- the same of an element that stands there
+  pub own_here : (i : ℕ) (x : X) → x ≡ get_or xs i d → or_else (own x) (used_fault (below i) (called x)) ≡ after_own i
+  own_here i x e = ap (λ y. or_else (own y) (used_fault (below i) (called y))) e
 
   turn : (i : ℕ) → i < length xs → left i ≡ numbered (i + 1) (after_own i) (left (i + 1))
   turn i h =
       at_drop_more (faults_in own called (below i) (i + 1)) xs i d h
       ∙ ap (λ e. numbered (i + 1) (after_own i) (faults_in own called e (i + 1 + 1) (drop (i + 1) xs))) (sym (map_more called xs i d h))
 
-  -- a turn that stops at the element's own fault, one that stops at its name, and one that goes on
-  pub stops_own : (i : ℕ) → i < length xs → (e : RecordFault) → own (get_or xs i d) ≡ Some e → left i ≡ Some (InRecord (i + 1) e)
-  stops_own i h e k = turn i h ∙ ap (λ o. numbered (i + 1) (or_else o (used_fault (below i) (called (get_or xs i d)))) (left (i + 1))) k
+  -- a turn that stops at an element, and one that goes on
+  pub stops_at : (i : ℕ) → i < length xs → (e : RecordFault) → after_own i ≡ Some e → left i ≡ Some (InRecord (i + 1) e)
+  stops_at i h e k = turn i h ∙ ap (λ o. numbered (i + 1) o (left (i + 1))) k
 
-  at_name : (i : ℕ) → i < length xs → (b : Bool) (n : List ℕ) → own (get_or xs i d) ≡ None → b ≡ has_name (below i) n → n ≡ called (get_or xs i d) → left i ≡ numbered (i + 1) (cond b (Some NameUsedEarlier) None) (left (i + 1))
-  at_name i h b n k t e =
-      let s : has_name (below i) (called (get_or xs i d)) ≡ b = ap (has_name (below i)) (sym e) ∙ sym t in
-      turn i h ∙ (λ j. numbered (i + 1) (or_else (k j) (cond (s j) (Some NameUsedEarlier) None)) (left (i + 1)))
+  pub goes_on : (i : ℕ) → i < length xs → after_own i ≡ None → left i ≡ left (i + 1)
+  goes_on i h k = turn i h ∙ ap (λ o. numbered (i + 1) o (left (i + 1))) k
 
-  pub stops_name : (i : ℕ) → i < length xs → (n : List ℕ) → own (get_or xs i d) ≡ None → true ≡ has_name (below i) n → n ≡ called (get_or xs i d) → left i ≡ Some (InRecord (i + 1) NameUsedEarlier)
-  stops_name i h n k t e = at_name i h true n k t e
-
-  pub goes_on : (i : ℕ) → i < length xs → (n : List ℕ) → own (get_or xs i d) ≡ None → false ≡ has_name (below i) n → n ≡ called (get_or xs i d) → left i ≡ left (i + 1)
-  goes_on i h n k t e = at_name i h false n k t e
+  -- one of the names before place i
+  pub named_below : (i : ℕ) (n : List ℕ) → i ≤ length xs → list_any (λ j. bytes_eq (called (get_or xs j d)) n) (range_with_len 0 i) ≡ has_name (below i) n
+  named_below i n h = any_below (λ x. bytes_eq (called x) n) xs d 0 i (omega arith) ∙ sym (any_map (λ m. bytes_eq m n) called (take i xs))
 
 -- a list that is not refused has no element with a fault
 pub all_sound : {X : Type 0} (own : X → Option RecordFault) (called : X → List ℕ) (e : List (List ℕ)) (n : ℕ) (xs : List X) → faults_in own called e n xs ≡ None → AllByRecursion (λ x. own x ≡ None) xs

@@ -1,8 +1,13 @@
 -- Coefficients as bytes, and the ends of a word. Assumes nothing.
-use Rattle.std.proofs.Common.{◌≡◌, ℕ, zero, suc, ◌+◌, ◌-◌, ◌*◌, ◌/◌, ◌^◌, ◌<◌, ◌≤◌, List, [], ◌∷◌, ◌++◌, length, get_or, take, drop, ℤ, sym, refl, ap, ◌∙◌, arith, w32, to_z}
+use Rattle.std.proofs.Common.{◌≡◌, ℕ, zero, suc, ◌+◌, ◌-◌, ◌*◌, ◌/◌, ◌^◌, ◌<◌, ◌≤◌, List, [], ◌∷◌, ◌++◌, map, length, get_or, take, drop, ℤ, sym, refl, ap, ◌∙◌, arith, w32, to_z}
 use Rattle.std.proofs.lemmas.List.{take_rest, length-drop, length-take, append_assoc, get_or-take, drop-take}
 use Rattle.std.proofs.lemmas.Nat.{pow_below}
-use Rattle.materials.specs.Layout.{words, four_at}
+use Rattle.std.specs.Simd.{first_chunks}
+use Rattle.std.specs.List.{list_all}
+use Rattle.std.proofs.lemmas.List.Folds.{list_all-map}
+use Rattle.arithmetic.specs.Words.{inside}
+use Rattle.materials.specs.Layout.{words, word_at, four_at}
+use Rattle.materials.specs.Records.{words_ok}
 
 pub half_small : (w : ℕ) → w ≤ 24 → 2 ^ (w - 1) < 16777216
 half_small w h = pow_below (w - 1) 24 (omega arith)
@@ -36,6 +41,20 @@ words_take (suc n) m bs e =
     let r : words n (drop 4 (take m bs)) ≡ words n (drop 4 bs) = ap (words n) s ∙ words_take n (m - 4) (drop 4 bs) (omega arith) in
     let f : four_at (take m bs) ≡ four_at bs = cc in
     λ i. to_z w32 (f i) ∷ r i
+
+-- coefficients are read from the bytes by four
+pub words_chunked : (n : ℕ) (bs : List ℕ) → map word_at (first_chunks 4 n bs) ≡ words n bs
+words_chunked zero bs = refl
+words_chunked (suc n) bs =
+    let a : get_or (take 4 bs) 0 0 ≡ get_or bs 0 0 = get_or-take 4 bs 0 0 (omega arith) in
+    let b : get_or (take 4 bs) 1 0 ≡ get_or bs 1 0 = get_or-take 4 bs 1 0 (omega arith) in
+    let c : get_or (take 4 bs) 2 0 ≡ get_or bs 2 0 = get_or-take 4 bs 2 0 (omega arith) in
+    let d : get_or (take 4 bs) 3 0 ≡ get_or bs 3 0 = get_or-take 4 bs 3 0 (omega arith) in
+    let f : four_at (take 4 bs) ≡ four_at bs = cc in
+    λ i. to_z w32 (f i) ∷ words_chunked n (drop 4 bs) i
+
+pub chunks_hold : (w n : ℕ) (bs : List ℕ) → list_all (λ c. inside w (word_at c)) (first_chunks 4 n bs) ≡ words_ok w (words n bs)
+chunks_hold w n bs = sym (list_all-map (inside w) word_at (first_chunks 4 n bs)) ∙ ap (words_ok w) (words_chunked n bs)
 
 -- the same, as a part of a slice has it
 pub words_front : (n : ℕ) (bs : List ℕ) → 4 * n ≤ length bs → words (length (take (4 * n - 0) (drop 0 bs)) / 4) (take (4 * n - 0) (drop 0 bs)) ≡ words n bs

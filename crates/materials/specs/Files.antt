@@ -13,10 +13,14 @@ use Rattle.materials.specs.Records.{material_fault, part_fault, name_of, has_nam
 abbrev pub count_of : List ℕ → ℕ
 count_of f = two_at f
 
--- the first n pairs, offset and length
+-- the pair that the first six bytes are, offset and length
+abbrev pub pair_in : List ℕ → ℕ × ℕ
+pair_in bs = (four_at bs, two_at (drop 4 bs))
+
+-- the first n pairs
 abbrev pub pairs_of : ℕ → List ℕ → List (ℕ × ℕ)
 pairs_of zero bs = []
-pairs_of (suc n) bs = (four_at bs, two_at (drop 4 bs)) ∷ pairs_of n (drop 6 bs)
+pairs_of (suc n) bs = pair_in bs ∷ pairs_of n (drop 6 bs)
 
 -- all pairs of a file
 abbrev pub directory : List ℕ → List (ℕ × ℕ)

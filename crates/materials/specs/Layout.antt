@@ -48,10 +48,14 @@ four_at bs = slice_index bs 0 * 16777216 + slice_index bs 1 * 65536 + slice_inde
 abbrev pub coded : ℤ → List ℕ
 coded z = four (of_z w32 z)
 
+-- the coefficient that the first four bytes are
+abbrev pub word_at : List ℕ → ℤ
+word_at bs = to_z w32 (four_at bs)
+
 -- the first n coefficients that stand in bs
 abbrev pub words : ℕ → List ℕ → List ℤ
 words zero bs = []
-words (suc n) bs = to_z w32 (four_at bs) ∷ words n (drop 4 bs)
+words (suc n) bs = word_at bs ∷ words n (drop 4 bs)
 
 -- what a record in a file says, once it has been cut into its fields
 abbrev pub seen : Fields → Material

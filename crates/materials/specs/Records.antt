@@ -1,8 +1,12 @@
 -- What of one record is refused: a decision table, whose first failing row is told. Assumes nothing.
 use Rattle.std.specs.Prelude.{◌≡◌, ℕ, ◌+◌, ◌*◌, ◌/◌, Bool, true, false, ◌&&◌, ◌||◌, List, [], ◌∷◌, ◌++◌, length, take, drop, ℤ, Some, None, Option, Result, MatchResult, ◌==◌, nat_le, slice_index}
 use Rattle.std.specs.Str.{bytes_eq}
+use Rattle.std.specs.List.{list_all, list_any}
 use Rattle.arithmetic.specs.declared.format.Format.{Format}
 use Rattle.arithmetic.specs.Words.{inside}
+use Rattle.arithmetic.specs.declared.choice.RoundingChoice.{RoundingChoice}
+use Rattle.arithmetic.specs.declared.choice.OverflowChoice.{OverflowChoice}
+use Rattle.arithmetic.specs.declared.setting.Setting.{Setting}
 use Rattle.arithmetic.specs.declared.format.FormatFault.{FormatFault}
 use Rattle.arithmetic.specs.declared.format.FormatFault.TheVariants.{Whole, Fraction, Width as OutOfWidth}
 use Rattle.materials.specs.declared.refusal.RecordFault.{RecordFault}
@@ -33,13 +37,11 @@ printable b = nat_le 32 b && nat_le b 126
 
 -- every number passes the test
 abbrev pub every : (ℕ → Bool) → List ℕ → Bool
-every t [] = true
-every t (x ∷ xs) = t x && every t xs
+every t xs = list_all t xs
 
 -- every coefficient is a word of w bits
 abbrev pub words_ok : ℕ → List ℤ → Bool
-words_ok w [] = true
-words_ok w (z ∷ zs) = inside w z && words_ok w zs
+words_ok w zs = list_all (inside w) zs
 
 -- 4: the name, and the bytes that it lies in
 abbrev pub name_rows : Shape → List ℕ → Rows
@@ -63,6 +65,10 @@ abbrev pub ChoicesFound : ℕ → ℕ → ℕ → Result Choices RecordFault →
 ChoicesFound form rounding overflow r = MatchResult r
     (λ x. (first (letter_rows form rounding overflow) ≡ None) × (form_of form ≡ Some x.form) × (rounding_of rounding ≡ Some x.rounding) × (overflow_of overflow ≡ Some x.overflow))
     (λ e. first (letter_rows form rounding overflow) ≡ Some e)
+
+-- the setting of a material, with the rules that its letters stand for
+abbrev pub setting_in : Material → Choices → Setting RoundingChoice OverflowChoice
+setting_in m ch = record { whole = m.whole; fraction = m.fraction; rounding = ch.rounding; overflow = ch.overflow }
 
 -- 6: the format, whole and fraction bits
 abbrev pub format_rows : ℕ → ℕ → Rows
@@ -169,5 +175,4 @@ Pieces nb na bytes forward back = (words (length forward / 4) forward ≡ words 
 
 -- one of the names is n
 abbrev pub has_name : List (List ℕ) → List ℕ → Bool
-has_name [] n = false
-has_name (m ∷ ms) n = bytes_eq m n || has_name ms n
+has_name ms n = list_any (λ m. bytes_eq m n) ms

@@ -1,47 +1,56 @@
 //! Whether a whole file is sound: its directory, then record by record.
-ghost use Rattle.std.specs.Prelude.{◌≡◌, ◌≤◌, [], map, take, Some, None, MatchResult, OnOk};
-ghost use Rattle.materials.specs.Refusals.{Checks};
-ghost use Rattle.materials.specs.Records.{has_name, name_of};
-ghost use Rattle.materials.specs.Files.{count_of, parts, file_fault, records_fault, refusal};
+ghost use Rattle.std.specs.Prelude.{◌≡◌, ◌<◌, ◌≤◌, [], map, take, Some, None, MatchResult, OnOk, slice_index_or};
+ghost use Rattle.materials.specs.Refusals.{Checks, or_else};
+ghost use Rattle.materials.specs.Records.{has_name, name_of, part_fault};
+ghost use Rattle.materials.specs.Files.{count_of, parts, used_fault, records_fault, refusal};
 ghost use Rattle.materials.specs.Numbers.{Tells, file_table};
-ghost use Rattle.materials.specs.Laws.{AcceptsExactly, OneRecordEach};
+ghost use Rattle.materials.specs.Laws.{Encoding, AcceptsExactly, OneRecordEach};
 
-use crate::directory::{check_directory, part_of};
-use crate::part::{examine, part_name};
+use crate::directory::Directory;
+use crate::part::{examine, is_named};
 use crate::refusal::{RecordFault, Refusal};
-use crate::same::same_bytes;
 
 // Whether one of the first `i` records has the name.
-fn name_used(file: &[u8], i: usize, name: &[u8]) -> bool
-    requires sound { file_fault file.now ≡ None }
-    requires present { i ≤ count_of file.now }
-    ensures { result ≡ has_name (map name_of (take i (parts file.now))) name.now }
+fn name_used(directory: &Directory<'_>, i: usize, name: &[u8]) -> bool
+    requires { i ≤ count_of directory.now.file.now }
+    ensures { result ≡ has_name (map name_of (take i (parts directory.now.file.now))) name.now }
 {
-    for j in 0..i {
-        if same_bytes(part_name(part_of(file, j)), name) {
-            return true;
-        }
+    (0..i).any(|j| is_named(directory.part(j), name))
+}
+
+// Whether nothing is wrong with record `i`, and no record before it has its name.
+fn check_part(directory: &Directory<'_>, i: usize) -> Result<(), RecordFault>
+    requires { i < count_of directory.now.file.now }
+    ensures { let ps = parts directory.now.file.now in let p = slice_index_or ps i [] in Checks (or_else (part_fault p) (used_fault (map name_of (take i ps)) (name_of p))) result }
+{
+    let fields = examine(directory.part(i))?;
+    if name_used(directory, i, fields.name) {
+        return Err(RecordFault::NameUsedEarlier);
     }
-    false
+    Ok(())
 }
 
 // Whether nothing is wrong with a record, in file order.
-fn check_records(file: &[u8], count: usize) -> Result<(), Refusal>
-    requires sound { file_fault file.now ≡ None }
-    requires counted { count ≡ count_of file.now }
-    ensures { Checks (records_fault [] 1 (parts file.now)) result }
+fn check_records(directory: &Directory<'_>) -> Result<(), Refusal>
+    ensures { Checks (records_fault [] 1 (parts directory.now.file.now)) result }
 {
-    for i in 0..count {
-        match examine(part_of(file, i)) {
-            Err(fault) => return Err(Refusal::InRecord(i + 1, fault)),
-            Ok(fields) => {
-                if name_used(file, i, fields.name) {
-                    return Err(Refusal::InRecord(i + 1, RecordFault::NameUsedEarlier));
-                }
-            }
+    for i in 0..directory.count() {
+        if let Err(fault) = check_part(directory, i) {
+            return Err(Refusal::InRecord(i + 1, fault));
         }
     }
     Ok(())
+}
+
+// The directory of a file that is not refused.
+pub(crate) fn checked(file: &[u8]) -> Result<Directory<'_>, Refusal>
+    ensures answer { MatchResult result (λ d. (d.file.now ≡ file.now) × (refusal file.now ≡ None)) (λ e. refusal file.now ≡ Some e) }
+    ensures numbers { Tells (file_table file.now) result }
+    ensures exactly { MatchResult result (λ _. Encoding file.now) (λ _. Encoding file.now → ⊥) }
+{
+    let directory = Directory::of(file)?;
+    check_records(&directory)?;
+    Ok(directory)
 }
 
 /// The number of records of a file, or why it is refused. It needs no memory.
@@ -53,7 +62,5 @@ pub fn check(file: &[u8]) -> Result<usize, Refusal>
     ensures exactly { AcceptsExactly file.now result }
     ensures names { OnOk result (OneRecordEach file.now) }
 {
-    let count = check_directory(file)?;
-    check_records(file, count)?;
-    Ok(count)
+    Ok(checked(file)?.count())
 }

@@ -1,22 +1,19 @@
 //! The limits on a record's single fields, wherever the record lies.
 ghost use Rattle.std.specs.Prelude.{◌≡◌, Some};
 ghost use Rattle.materials.specs.Refusals.{Checks, first};
-ghost use Rattle.materials.specs.Records.{every, printable, unwritten, name_rows, count_rows, of_format, ChoicesFound, FormatFound};
+ghost use Rattle.materials.specs.Records.{every, printable, unwritten, name_rows, count_rows, ChoicesFound, FormatFound};
 
-use crate::letters::{Choices, form_of_letter, overflow_of_letter, rounding_of_letter};
+use crate::letters::{Choices, FromLetter};
 use crate::refusal::RecordFault;
-use arithmetic::format::{Format, FormatFault};
+use arithmetic::choice::{OverflowChoice, RoundingChoice};
+use arithmetic::format::Format;
+use forms::form::Form;
 
 // Whether every byte of a name is from 32 to 126.
 pub(crate) fn all_printable(name: &[u8]) -> bool
     ensures { result ≡ every printable name.now }
 {
-    for b in name {
-        if *b < 32 || *b > 126 {
-            return false;
-        }
-    }
-    true
+    name.iter().all(|b| *b >= 32 && *b <= 126)
 }
 
 // Whether a name has 1 to 40 bytes, each from 32 to 126.
@@ -36,41 +33,18 @@ pub(crate) fn check_name(name: &[u8]) -> Result<(), RecordFault>
 pub fn choices_of(form: char, rounding: char, overflow: char) -> Result<Choices, RecordFault>
     ensures { ChoicesFound form rounding overflow result }
 {
-    let Some(form) = form_of_letter(form) else {
-        return Err(RecordFault::FormLetter);
-    };
-    let Some(rounding) = rounding_of_letter(rounding) else {
-        return Err(RecordFault::RoundingLetter);
-    };
-    let Some(overflow) = overflow_of_letter(overflow) else {
-        return Err(RecordFault::OverflowLetter);
-    };
     Ok(Choices {
-        form,
-        rounding,
-        overflow,
+        form: Form::from_letter(form).ok_or(RecordFault::FormLetter)?,
+        rounding: RoundingChoice::from_letter(rounding).ok_or(RecordFault::RoundingLetter)?,
+        overflow: OverflowChoice::from_letter(overflow).ok_or(RecordFault::OverflowLetter)?,
     })
-}
-
-// A fault of a format as a fault of the record that has it.
-fn format_fault(fault: FormatFault) -> RecordFault
-    ensures { result ≡ of_format fault }
-{
-    match fault {
-        FormatFault::Whole => RecordFault::WholeBits,
-        FormatFault::Fraction => RecordFault::FractionBits,
-        FormatFault::Width => RecordFault::Width,
-    }
 }
 
 /// The format with so many whole and fraction bits, or what is wrong with it.
 pub fn format_of(whole_bits: u8, fraction_bits: u8) -> Result<Format, RecordFault>
     ensures { FormatFound whole_bits fraction_bits result }
 {
-    match Format::new(whole_bits as u32, fraction_bits as u32) {
-        Ok(format) => Ok(format),
-        Err(fault) => Err(format_fault(fault)),
-    }
+    Ok(Format::new(u32::from(whole_bits), u32::from(fraction_bits))?)
 }
 
 // Whether there are 1 to 9 feedforward and at most 8 feedback coefficients.

@@ -1,5 +1,6 @@
 //! One record as it lies in a file.
 ghost use Rattle.std.specs.Prelude.{◌≡◌, ◌≤◌, length, Some, None, MatchResult};
+ghost use Rattle.std.specs.Str.{bytes_eq};
 ghost use Rattle.arithmetic.specs.Formats.{width};
 ghost use Rattle.materials.specs.Layout.{seen};
 ghost use Rattle.materials.specs.Records.{coefficients_fault, tail_fault, part_fault, material_of, Pieces};
@@ -96,7 +97,7 @@ pub fn examine(part: &[u8]) -> Result<Fields<'_>, RecordFault>
 }
 
 // The name that a part of a file begins with.
-pub(crate) fn part_name(part: &[u8]) -> &[u8]
+fn part_name(part: &[u8]) -> &[u8]
     ensures { result.now ≡ name_in part.now }
 {
     let [size, named @ ..] = part else {
@@ -104,4 +105,11 @@ pub(crate) fn part_name(part: &[u8]) -> &[u8]
     };
     let n = (*size as usize).min(named.len());
     &named[0..n]
+}
+
+// Whether a part of a file begins with this name.
+pub(crate) fn is_named(part: &[u8], name: &[u8]) -> bool
+    ensures { result ≡ bytes_eq (name_in part.now) name.now }
+{
+    part_name(part) == name
 }

@@ -6,9 +6,8 @@ ghost use Rattle.materials.specs.Files.{refusal};
 ghost use Rattle.materials.specs.Numbers.{TellsOrMemory, file_table};
 ghost use Rattle.materials.specs.Laws.{Says, Encodes, NoEncodingOrMemory};
 
-use crate::check::check;
+use crate::check::checked;
 use crate::coefficients::decode;
-use crate::directory::part_of;
 use crate::part::{Fields, examine};
 use crate::record::Record;
 use crate::refusal::Refusal;
@@ -38,10 +37,10 @@ pub fn read(heap: Global, file: &[u8]) -> Result<Vec<Record>, Refusal>
     ensures numbers { TellsOrMemory (file_table file.now) result }
     ensures exactly { MatchResult result (λ v. Encodes (map meaning v.items) file.now) (λ e. NoEncodingOrMemory file.now e) }
 {
-    let count = check(file)?;
+    let directory = checked(file)?;
     let mut out = Vec::new(heap);
-    for i in 0..count {
-        let Ok(fields) = examine(part_of(file, i)) else {
+    for i in 0..directory.count() {
+        let Ok(fields) = examine(directory.part(i)) else {
             unreachable();
         };
         out.push(make(heap, fields)?)?;

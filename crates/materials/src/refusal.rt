@@ -3,7 +3,9 @@ ghost use Rattle.std.specs.Prelude.{◌≡◌};
 ghost use Rattle.materials.specs.declared.refusal.Refusal.TheVariants.{OutOfMemory};
 ghost use Rattle.materials.specs.Refusals.{fault_number, record_number};
 ghost use Rattle.materials.specs.Refusals.{number as refusal_number};
+ghost use Rattle.materials.specs.Records.{of_format};
 
+use arithmetic::format::FormatFault;
 use std::alloc::{AllocError, AllocFailed};
 
 /// What is wrong with a record, one case for each condition.
@@ -58,6 +60,19 @@ impl RecordFault {
             RecordFault::Length => 8,
             RecordFault::Coefficient => 9,
             RecordFault::NameUsedEarlier => 10,
+        }
+    }
+}
+
+/// A fault of a format is a fault of the record that has it.
+impl From<FormatFault> for RecordFault {
+    ghost from_gives = { λ e r. r ≡ of_format e };
+
+    fn from(fault: FormatFault) -> RecordFault {
+        match fault {
+            FormatFault::Whole => RecordFault::WholeBits,
+            FormatFault::Fraction => RecordFault::FractionBits,
+            FormatFault::Width => RecordFault::Width,
         }
     }
 }

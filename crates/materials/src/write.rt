@@ -1,12 +1,12 @@
 //! The file of a list of records, written into a lent destination.
-ghost use Rattle.std.specs.Prelude.{◌≡◌, ◌+◌, ◌*◌, ◌≤◌, map, length, None};
-ghost use Rattle.std.specs.List.{flat_map, AllByRecursion};
+ghost use Rattle.std.specs.Prelude.{◌≡◌, ◌+◌, ◌*◌, ◌≤◌, map, length};
+ghost use Rattle.std.specs.List.{flat_map};
 ghost use Rattle.materials.specs.Layout.{Puts, coded, pairs, meaning};
-ghost use Rattle.materials.specs.Lists.{bytes_of, record_fault};
+ghost use Rattle.materials.specs.Lists.{bytes_of};
 ghost use Rattle.materials.specs.Numbers.{Tells, write_table};
 ghost use Rattle.materials.specs.Laws.{Written, ReadsBack};
 
-use crate::list::{check_list, record_length};
+use crate::list::{Good, GoodList, check_list};
 use crate::record::Record;
 use crate::refusal::Refusal;
 
@@ -33,11 +33,11 @@ fn put_words(destination: &mut [u8], at: usize, words: &[i32]) -> usize
 }
 
 // Writes a record from `at` on, and says where it ends.
-fn put_record(destination: &mut [u8], at: usize, item: &Record) -> usize
-    requires good { record_fault item.now ≡ None }
-    requires room { at + length (bytes_of item.now) ≤ length destination.old }
-    ensures { Puts destination.old at (bytes_of item.now) destination.new result }
+fn put_record(destination: &mut [u8], at: usize, good: &Good<'_>) -> usize
+    requires { at + length (bytes_of good.now.item.now) ≤ length destination.old }
+    ensures { Puts destination.old at (bytes_of good.now.item.now) destination.new result }
 {
+    let item = good.item;
     let at = put(destination, at, &[item.name.len() as u8]);
     let at = put(destination, at, item.name.as_slice());
     let (k, l) = (item.whole_bits, item.fraction_bits);
@@ -56,17 +56,15 @@ fn put_record(destination: &mut [u8], at: usize, item: &Record) -> usize
     put_words(destination, at, item.feedback.as_slice())
 }
 
-// Writes the pairs of the records, of which the first begins at `offset`.
-fn put_pairs(destination: &mut [u8], at: usize, offset: usize, records: &[Record]) -> usize
-    requires good { AllByRecursion (λ r. record_fault r ≡ None) records.now }
-    requires room { at + 6 * length records.now ≤ length destination.old }
-    requires small { (offset ≤ 3074) × (length records.now ≤ 512) }
-    ensures { Puts destination.old at (pairs offset (map bytes_of records.now)) destination.new result }
+// Writes the pairs of the records, of which the first begins where the pairs end.
+fn put_pairs(destination: &mut [u8], at: usize, list: &GoodList<'_>) -> usize
+    requires { at + 6 * length list.now.records.now ≤ length destination.old }
+    ensures { Puts destination.old at (pairs (2 + 6 * length list.now.records.now) (map bytes_of list.now.records.now)) destination.new result }
 {
     let mut end = at;
-    let mut begin = offset;
-    for item in records {
-        let length = record_length(item);
+    let mut begin = 2 + 6 * list.records.len();
+    for item in list.records {
+        let length = Good { item }.length();
         end = put(destination, end, &(begin as u32).to_be_bytes());
         end = put(destination, end, &(length as u16).to_be_bytes());
         begin += length;
@@ -75,14 +73,13 @@ fn put_pairs(destination: &mut [u8], at: usize, offset: usize, records: &[Record
 }
 
 // Writes the records one after another.
-fn put_records(destination: &mut [u8], at: usize, records: &[Record]) -> usize
-    requires good { AllByRecursion (λ r. record_fault r ≡ None) records.now }
-    requires room { at + length (flat_map bytes_of records.now) ≤ length destination.old }
-    ensures { Puts destination.old at (flat_map bytes_of records.now) destination.new result }
+fn put_records(destination: &mut [u8], at: usize, list: &GoodList<'_>) -> usize
+    requires { at + length (flat_map bytes_of list.now.records.now) ≤ length destination.old }
+    ensures { Puts destination.old at (flat_map bytes_of list.now.records.now) destination.new result }
 {
     let mut end = at;
-    for item in records {
-        end = put_record(destination, end, item);
+    for item in list.records {
+        end = put_record(destination, end, &Good { item });
     }
     end
 }
@@ -95,12 +92,11 @@ pub fn write(records: &[Record], destination: &mut [u8]) -> Result<usize, Refusa
     ensures numbers { Tells (write_table (map meaning records.now) (length destination.old)) result }
     ensures reads_back { ReadsBack (map meaning records.now) destination.new result }
 {
-    let size = check_list(records)?;
-    if size > destination.len() {
+    let list = check_list(records)?;
+    if list.size > destination.len() {
         return Err(Refusal::DestinationTooShort);
     }
-    let count = records.len();
-    let at = put(destination, 0, &(count as u16).to_be_bytes());
-    let at = put_pairs(destination, at, 2 + 6 * count, records);
-    Ok(put_records(destination, at, records))
+    let at = put(destination, 0, &(list.records.len() as u16).to_be_bytes());
+    let at = put_pairs(destination, at, &list);
+    Ok(put_records(destination, at, &list))
 }

@@ -1,29 +1,16 @@
-use Rattle.std.proofs.Common.{◌≤◌, [], length, sym, ap, ◌∙◌, arith}
+use Rattle.std.proofs.Common.{[], get_or, length, refl, ◌∙◌, ◌≤◌, arith, rules, tests}
+use Rattle.std.specs.Str.{bytes_eq}
+use Rattle.std.proofs.lemmas.Iterator.{YieldsList-from_range}
+use Rattle.std.proofs.lemmas.Iterator.Search.{any_from_yields_List}
 use Rattle.materials.specs.Records.{name_of, part_fault}
 use Rattle.materials.specs.Files.{parts}
-use Rattle.materials.proofs.Turns.{length_parts, names_more, names_all}
+use Rattle.materials.proofs.Turns.{length_parts, named_below}
 use Rattle.materials.proofs.check.name_used.Goals as goal
-
-pub returns-then-same_bytes : goal.returns-then-same_bytes
-returns-then-same_bytes c =
-    let ps = parts c.args.file.now in
-    let h : c.args.i ≤ length ps = omega (arith, length_parts c.args.file.now) in
-    let k = c.part_name.ensures ∙ ap name_of c.part_of.ensures in
-    let t = c.same_bytes.ensures in
-    let m = names_more part_fault name_of ps [] c.args.i c.loop-j.j c.args.name.now h (omega arith) in
-    grind arith
-
-pub loop-j-preserved : goal.loop-j-preserved
-loop-j-preserved c =
-    let ps = parts c.args.file.now in
-    let h : c.args.i ≤ length ps = omega (arith, length_parts c.args.file.now) in
-    let k = c.part_name.ensures ∙ ap name_of c.part_of.ensures in
-    let t = c.same_bytes.ensures in
-    let m = names_more part_fault name_of ps [] c.args.i c.loop-j.j c.args.name.now h (omega arith) in
-    grind arith
 
 pub returns : goal.returns
 returns c =
-    let ps = parts c.args.file.now in
-    let h : c.args.i ≤ length ps = omega (arith, length_parts c.args.file.now) in
-    sym (names_all part_fault name_of ps c.args.i c.loop-j.j c.args.name.now h (omega arith)) ∙ c.loop-j.invariant
+    let ps = parts c.args.directory.now.file.now in
+    let n = c.args.name.now in
+    let h : c.args.i ≤ length ps = omega (arith, length_parts c.args.directory.now.file.now) in
+    any_from_yields_List (λ j. bytes_eq (name_of (get_or ps j [])) n) _ _ c.any.result c.any.ensures.ran (YieldsList-from_range 0 c.args.i c.args.i refl (omega arith)) (λ x b q k. search (rules, tests))
+    ∙ named_below part_fault name_of ps [] c.args.i n h

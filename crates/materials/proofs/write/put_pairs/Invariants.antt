@@ -6,6 +6,6 @@ use Rattle.materials.proofs.write.put_pairs.Given as goal
 
 abbrev pub invariant-loop-item : goal.invariant-loop-item
 invariant-loop-item l =
-    Puts l.initial.destination l.at (pairs l.offset (map bytes_of (take l.item-index l.records))) l.destination l.end
-    × (l.begin ≡ l.offset + length (flat_map bytes_of (take l.item-index l.records)))
-    × (l.begin ≤ l.offset + 116 * l.item-index)
+    Puts l.initial.destination l.at (pairs (2 + 6 * length l.list.records.now) (map bytes_of (take l.item-index l.list.records.now))) l.destination l.end
+    × (l.begin ≡ (2 + 6 * length l.list.records.now) + length (flat_map bytes_of (take l.item-index l.list.records.now)))
+    × (l.begin ≤ (2 + 6 * length l.list.records.now) + 116 * l.item-index)
