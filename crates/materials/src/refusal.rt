@@ -9,7 +9,7 @@ use arithmetic::format::FormatFault;
 use std::alloc::{AllocError, AllocFailed};
 
 /// What is wrong with a record, one case for each condition.
-#[derive(Clone, Copy, Debug, PartialEq)]
+#[derive(Clone, Copy, Debug, PartialEq, Eq)]
 pub enum RecordFault {
     /// Its part of the file has no byte.
     Empty,
@@ -78,7 +78,7 @@ impl From<FormatFault> for RecordFault {
 }
 
 /// Why a file, a look-up or a list of records is refused, one case for each condition.
-#[derive(Clone, Copy, Debug, PartialEq)]
+#[derive(Clone, Copy, Debug, PartialEq, Eq)]
 pub enum Refusal {
     /// The file has fewer than 2 bytes, or more than 65,000.
     FileSize,

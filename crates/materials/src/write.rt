@@ -11,6 +11,7 @@ use crate::record::Record;
 use crate::refusal::Refusal;
 
 // Writes the bytes from `at` on, and says where they end.
+// The destination and the place stay two parameters: by a rule of the project the destination is a lent slice, of which a refusal speaks.
 fn put(destination: &mut [u8], at: usize, bytes: &[u8]) -> usize
     requires { at + length bytes.now ≤ length destination.old }
     ensures { Puts destination.old at bytes.now destination.new result }

@@ -1,10 +1,9 @@
-use Rattle.std.proofs.Common.{◌≡◌, ◌+◌, ◌-◌, ◌*◌, leb, length, take, map, Some, None, sym, ap, ◌∙◌, arith}
+use Rattle.std.proofs.Common.{◌+◌, ◌*◌, leb, length, Some, None, sym, ap, ◌∙◌, arith}
 use Rattle.std.proofs.lemmas.List.{take_all}
 use Rattle.std.proofs.lemmas.Bool.{cond-true, le-leb}
 use Rattle.std.specs.List.{flat_map}
 use Rattle.materials.specs.declared.refusal.Refusal.TheVariants.{RecordCount}
 use Rattle.materials.specs.Refusals.{or_else}
-use Rattle.materials.specs.Files.{used_fault}
 use Rattle.materials.specs.Lists.{record_fault, called, bytes_of, list_fault}
 use Rattle.materials.proofs.Turns.{own_here, stops_at, goes_on, ends}
 use Rattle.materials.proofs.Writes.{length_next}
