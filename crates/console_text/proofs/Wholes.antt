@@ -19,7 +19,8 @@ use Rattle.console_text.specs.Pieces.{lines}
 use Rattle.console_text.specs.Calls.{Reads, no_lines, a_call, unread}
 use Rattle.console_text.specs.Texts.{read_count, answers, marked_text, Answered, no_lines_left, answer, unanswered}
 use Rattle.console_text.specs.Watching.{SheetLimits}
-use Rattle.console_text.specs.Sessions.{setting_in, wiring_in, coefficients_in, range_in, LoggedCalls, Session}
+use Rattle.materials.specs.Records.{setting_in}
+use Rattle.console_text.specs.Sessions.{wiring_in, coefficients_in, range_in, LoggedCalls, Session}
 use Rattle.console_text.proofs.Limiting.{limits_watch}
 
 -- as many lines are marked as read as there are calls

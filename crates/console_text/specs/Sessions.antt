@@ -15,15 +15,12 @@ use Rattle.replay.specs.declared.log.Call.{Call}
 use Rattle.replay.specs.declared.log.Entry.{Entry}
 use Rattle.replay.specs.Replaying.{Replays}
 use Rattle.materials.specs.declared.letters.Choices.{Choices}
+use Rattle.materials.specs.Records.{setting_in}
 use Rattle.materials.specs.Layout.{Material}
 use Rattle.materials.specs.Letters.{form_of, rounding_of, overflow_of}
 use Rattle.console_text.specs.Pieces.{lines}
 use Rattle.console_text.specs.Texts.{SessionText}
 use Rattle.console_text.specs.Watching.{WatchLimits}
-
--- the setting of a material, with the rules that its letters stand for
-abbrev pub setting_in : Material → Choices → Setting RoundingChoice OverflowChoice
-setting_in m ch = record { whole = m.whole; fraction = m.fraction; rounding = ch.rounding; overflow = ch.overflow }
 
 -- its wiring in a form, and its coefficients: b0 and on, then a1 and on
 abbrev pub wiring_in : Material → Form → Graph

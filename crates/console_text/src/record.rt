@@ -3,14 +3,13 @@ ghost use Rattle.std.specs.Prelude.{◌≡◌, ◌+◌, pos, IfOk};
 ghost use Rattle.wiring.specs.Graphs.{graph_of};
 ghost use Rattle.materials.specs.Layout.{meaning};
 ghost use Rattle.console_text.specs.Watching.{SheetLimits};
-ghost use Rattle.console_text.specs.Sessions.{setting_in, wiring_in, coefficients_in, range_in};
+ghost use Rattle.console_text.specs.Sessions.{wiring_in, coefficients_in, range_in};
 
 use crate::halt::Halt;
 use arithmetic::choice::{OverflowChoice, RoundingChoice};
 use arithmetic::setting::Setting;
 use channel::state::Limits;
 use forms::form::Form;
-use materials::letters::Choices;
 use materials::record::Record;
 use sheet::sheet::sheet;
 use std::alloc::Global;
@@ -19,18 +18,6 @@ use wiring::limits::MAX_REGISTERS;
 
 /// A setting whose rules are those that a record's letters stand for.
 pub(crate) type Chosen = Setting<RoundingChoice, OverflowChoice>;
-
-/// The setting of a record.
-pub(crate) fn setting_of(item: &Record, choices: Choices) -> Chosen
-    ensures { result ≡ setting_in (meaning item.now) choices }
-{
-    Setting {
-        whole: u32::from(item.whole_bits),
-        fraction: u32::from(item.fraction_bits),
-        rounding: choices.rounding,
-        overflow: choices.overflow,
-    }
-}
 
 /// The filter of a record in a form.
 pub(crate) fn filter_of(heap: Global, item: &Record, form: Form) -> Result<Filter, Halt>

@@ -10,7 +10,7 @@ ghost use Rattle.console_text.specs.Consoles.{StandsFor, OverKind, ConsoleText};
 
 use crate::halt::Halt;
 use crate::pieces::lines;
-use crate::record::{Chosen, filter_of, limits_of, setting_of};
+use crate::record::{Chosen, filter_of, limits_of};
 use crate::rows::Rows;
 use crate::script::read_script;
 use crate::show::Shown;
@@ -59,7 +59,7 @@ where
     ensures { IfOk result (λ s. Session K.Kind.model K.Value.fields kind name.now (meaning item.now) input.now (string_bytes s)) }
 {
     let choices = item.choices()?;
-    let setting = setting_of(item, choices);
+    let setting = item.setting(choices);
     let limits = limits_of(heap, item, choices.form, &setting)?;
     let filter = filter_of(heap, item, choices.form)?;
     let lines = lines(heap, input)?;

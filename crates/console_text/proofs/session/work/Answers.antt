@@ -9,7 +9,7 @@ pub session_text-requires : goal.session_text-requires
 session_text-requires g c =
     let filter = c.in_ok-filter.filter in
     let script = c.in_ok-script.script in
-    entries_enough g.K.Kind.model c.args.kind c.setting_of-setting.result (graph_of filter.wiring) (vec_items filter.coefficients) c.in_ok-limits.limits
+    entries_enough g.K.Kind.model c.args.kind c.setting-setting.result (graph_of filter.wiring) (vec_items filter.coefficients) c.in_ok-limits.limits
     c.len.result c.len-2.result (map bytes c.as_slice.result.now) (vec_items script.marks) c.as_slice-3.result.now (vec_items script.calls) c.as_slice-2.result.now (vec_items c.in_ok-log.log) c.as_slice-4.result.now
     c.in_ok-script.ensures c.as_slice-2.ensures.value c.in_ok-log.ensures c.as_slice-3.ensures.value c.as_slice-4.ensures.value
 
@@ -21,7 +21,7 @@ returns g c =
     let letters = c.in_ok-choices.ensures in
     let script = c.in_ok-script.script in
     session_whole g.K.Kind.model g.K.Value.Shown.fields c.args.kind c.args.name.now m c.args.input.now (string_bytes c.in_ok-session_text.field-0) c.in_ok-choices.choices c.in_ok-limits.limits
-    c.setting_of-setting.result (graph_of filter.wiring) (vec_items filter.coefficients) c.len.result c.len-2.result (map bytes c.as_slice.result.now) (vec_items script.marks) c.as_slice-3.result.now (vec_items script.calls) c.as_slice-2.result.now (vec_items c.in_ok-log.log) c.as_slice-4.result.now
-    letters.1 letters.2 letters.3 c.setting_of-setting.ensures built.0 built.1
+    c.setting-setting.result (graph_of filter.wiring) (vec_items filter.coefficients) c.len.result c.len-2.result (map bytes c.as_slice.result.now) (vec_items script.marks) c.as_slice-3.result.now (vec_items script.calls) c.as_slice-2.result.now (vec_items c.in_ok-log.log) c.as_slice-4.result.now
+    letters.1 letters.2 letters.3 c.setting-setting.ensures built.0 built.1
     (c.len.ensures ∙ filter.wiring.sources.ok.0) (c.len-2.ensures ∙ filter.wiring.nodes.ok.0) (ap (map bytes) c.as_slice.ensures.value ∙ c.in_ok-lines.ensures)
     c.in_ok-limits.ensures c.in_ok-script.ensures c.as_slice-2.ensures.value c.in_ok-log.ensures c.as_slice-3.ensures.value c.as_slice-4.ensures.value c.in_ok-session_text.ensures
