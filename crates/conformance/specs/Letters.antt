@@ -1,5 +1,5 @@
 -- The letters of the rules and the forms.
-use Rattle.std.specs.Prelude.{ℕ}
+use Rattle.std.specs.Prelude.{◌≡◌, ℕ, List, [], ◌∷◌, Option, Some, None}
 use Rattle.arithmetic.specs.declared.choice.RoundingChoice.{RoundingChoice}
 use Rattle.arithmetic.specs.declared.choice.RoundingChoice.TheVariants.{Floor, Nearest, TowardZero}
 use Rattle.arithmetic.specs.declared.choice.OverflowChoice.{OverflowChoice}
@@ -24,3 +24,11 @@ abbrev pub form_letter : Form → ℕ
 form_letter Direct1 = 49
 form_letter Direct2 = 50
 form_letter Transposed2 = 84
+
+-- the text is one letter, and it stands for v
+abbrev pub Letter : {T : Type 0} → (ℕ → Option T) → List ℕ → T → Type 0
+Letter meant text v = (c : ℕ) × (text ≡ c ∷ []) × (meant c ≡ Some v)
+
+-- no letter that stands for anything is the whole of the text
+abbrev pub NoLetter : {T : Type 0} → (ℕ → Option T) → List ℕ → Type 0
+NoLetter meant text = (c : ℕ) → text ≡ c ∷ [] → meant c ≡ None

@@ -1,11 +1,9 @@
 //! Cases of materials files.
-ghost use Rattle.std.specs.Prelude.{◌≤◌, IfOk};
-
 use crate::fault::Fault;
 use crate::hex::{Hex, read_bytes};
-use crate::numbers::number;
+use crate::numbers::read_at_most;
 use crate::records::{Line, read_records};
-use crate::show::OrDash;
+use crate::show::Refused;
 use materials::look_up::look_up;
 use materials::read::read;
 use materials::refusal::Refusal;
@@ -13,13 +11,12 @@ use materials::write::write;
 use schedule_text::schedule::schedule;
 use std::io::Write;
 
-// The number of a refusal and its record, where one is told. Want of memory ends the program.
-fn print_refusal(rt: &HostRuntime, refusal: Refusal) -> Result<(), Fault> {
-    match refusal.number() {
-        Some(number) => print!(rt; "refused {number} {}", OrDash(refusal.record()))?,
-        None => return Err(Fault::Memory),
-    }
-    Ok(())
+// A refusal as it is shown. Want of memory has no number, and ends the program.
+fn refused(refusal: Refusal) -> Result<Refused, Fault> {
+    Ok(Refused {
+        number: u32::from(refusal.number().ok_or(Fault::Memory)?),
+        place: refusal.record(),
+    })
 }
 
 /// The records of a file.
@@ -28,14 +25,11 @@ pub fn print_records(rt: &HostRuntime, file: &str) -> Result<(), Fault> {
     match read(heap, &read_bytes(heap, file)?) {
         Ok(records) => {
             println!(rt; "records {}", records.len())?;
-            for record in records.as_slice() {
+            for record in &records {
                 println!(rt; "{}", Line(record))?;
             }
         }
-        Err(refusal) => {
-            print_refusal(rt, refusal)?;
-            println!(rt; "")?;
-        }
+        Err(refusal) => println!(rt; "{}", refused(refusal)?)?,
     }
     Ok(())
 }
@@ -52,10 +46,7 @@ pub fn print_place(rt: &HostRuntime, file: &str, name: &str) -> Result<(), Fault
             found.offset,
             Hex(found.bytes)
         )?,
-        Err(refusal) => {
-            print_refusal(rt, refusal)?;
-            println!(rt; "")?;
-        }
+        Err(refusal) => println!(rt; "{}", refused(refusal)?)?,
     }
     Ok(())
 }
@@ -66,27 +57,17 @@ const BEFORE: u8 = 170;
 // The most bytes that a destination may have.
 const MAX_BYTES: usize = 100000;
 
-// The length of a destination.
-fn read_size(text: &str) -> Result<usize, Fault>
-    ensures { IfOk result (λ n. n ≤ 100000) }
-{
-    match number::<usize>(text) {
-        Some(n) if n <= MAX_BYTES => Ok(n),
-        _ => Err(Fault::Unread),
-    }
-}
-
 /// The file of these records, written into a destination of so many bytes.
 pub fn print_written(rt: &HostRuntime, length: &str, records: &[&str]) -> Result<(), Fault> {
     let heap = rt.alloc();
-    let length = read_size(length)?;
+    let length = read_at_most(length, MAX_BYTES)?;
     let records = read_records(heap, records)?;
     let mut destination = vec![in heap; BEFORE; length]?;
     match write(&records, &mut destination) {
         Ok(count) => print!(rt; "wrote {count}")?,
-        Err(refusal) => print_refusal(rt, refusal)?,
+        Err(refusal) => print!(rt; "{}", refused(refusal)?)?,
     }
-    println!(rt; " {}", Hex(destination.as_slice()))?;
+    println!(rt; " {}", Hex(&destination))?;
     Ok(())
 }
 

@@ -26,23 +26,19 @@ fn byte(high: u8, low: u8) -> Option<u8>
 
 /// The bytes that a field writes; none where it is a dash.
 pub fn read_bytes(heap: Global, text: &str) -> Result<Vec<u8>, Fault> {
-    let mut all = Vec::new(heap);
     if text == "-" {
-        return Ok(all);
+        return Ok(Vec::new(heap));
     }
     if text.is_empty() {
         return Err(Fault::Unread);
     }
-    for pair in text.as_bytes().chunks(2) {
-        let [high, low] = pair else {
-            return Err(Fault::Unread);
-        };
-        match byte(*high, *low) {
-            Some(b) => all.push(b)?,
-            None => return Err(Fault::Unread),
-        }
-    }
-    Ok(all)
+    text.as_bytes()
+        .chunks(2)
+        .map(|pair| match pair {
+            [high, low] => byte(*high, *low).ok_or(Fault::Unread),
+            _ => Err(Fault::Unread),
+        })
+        .try_collect(heap)
 }
 
 /// Bytes, shown as pairs of digits, or as a dash where there are none.

@@ -2,6 +2,7 @@
 #![tactic(auto)]
 
 mod calls;
+mod case;
 mod fault;
 mod files;
 mod filters;
@@ -17,12 +18,13 @@ mod show;
 mod values;
 mod wirings;
 
+use crate::case::work_over;
 use crate::fault::Fault;
 use crate::files::{print_place, print_records, print_schedule, print_written};
 use crate::filters::print_form;
-use crate::rows::print_rows;
+use crate::rows::Rows;
 use crate::rules::{print_reach, print_round, print_stored};
-use crate::runs::print_run;
+use crate::runs::Run;
 use crate::settings::read_setting;
 use crate::sheets::print_sheet;
 use std::io;
@@ -37,16 +39,16 @@ fn work(rt: &HostRuntime, fields: &[&str]) -> Result<(), Fault> {
         ["store", rule, bits, raw] => print_stored(rt, rule, bits, raw),
         ["form", form, b, a] => print_form(rt, form, b, a),
         ["sheet", k, l, r, o, rest @ ..] => print_sheet(rt, read_setting(k, l, r, o)?, rest),
-        ["run", k, l, r, o, kind, rest @ ..] => print_run(
+        ["run", k, l, r, o, kind, rest @ ..] => work_over::<Run>(
             rt,
-            read_setting(k, l, r, o)?,
             kind,
+            &read_setting(k, l, r, o)?,
             rest,
         ),
-        ["rows", k, l, r, o, kind, rest @ ..] => print_rows(
+        ["rows", k, l, r, o, kind, rest @ ..] => work_over::<Rows>(
             rt,
-            read_setting(k, l, r, o)?,
             kind,
+            &read_setting(k, l, r, o)?,
             rest,
         ),
         ["read", file] => print_records(rt, file),
@@ -59,13 +61,8 @@ fn work(rt: &HostRuntime, fields: &[&str]) -> Result<(), Fault> {
 
 // Works the case of a line, which may end with a line feed.
 fn work_line(rt: &HostRuntime, line: &[u8]) -> Result<(), Fault> {
-    let line = match line.strip_suffix(b"\n") {
-        Some(shorter) => shorter,
-        None => line,
-    };
-    let Ok(text) = from_utf8(line) else {
-        return Err(Fault::Unread);
-    };
+    let line = line.strip_suffix(b"\n").unwrap_or(line);
+    let text = from_utf8(line).map_err(|_| Fault::Unread)?;
     let fields: Vec<&str> = text.split(' ').collect(rt.alloc())?;
     work(rt, &fields)
 }

@@ -1,5 +1,5 @@
 //! Numbers, alone and in lists.
-ghost use Rattle.std.specs.Prelude.{◌≡◌, ◌<◌, ◌≤◌, length, IfSome, IfOk, Ok, ◌≢◌, slice_index};
+ghost use Rattle.std.specs.Prelude.{◌<◌, ◌≤◌, length, IfSome, IfOk, Ok, ◌≢◌, slice_index};
 
 use crate::fault::Fault;
 use std::alloc::Global;
@@ -11,14 +11,10 @@ where
     T::Err: Drop,
     ensures { IfSome result (λ n. (0 < length text.now → slice_index text.now 0 ≢ 43) × T.FromStr.from_str_gives text.now (Ok n)) }
 {
-    let bytes = text.as_bytes();
-    if !bytes.is_empty() && bytes[0] == b'+' {
+    if text.as_bytes().first() == Some(&b'+') {
         return None;
     }
-    match text.parse::<T>() {
-        Ok(n) => Some(n),
-        Err(_) => None,
-    }
+    text.parse().ok()
 }
 
 /// The number of a field.
@@ -26,10 +22,28 @@ pub fn read_number<T: FromStr>(text: &str) -> Result<T, Fault>
 where
     T::Err: Drop,
 {
-    match number(text) {
-        Some(n) => Ok(n),
-        None => Err(Fault::Unread),
+    number(text).ok_or(Fault::Unread)
+}
+
+/// The number of a field, where it is not too large.
+pub fn read_at_most(text: &str, most: usize) -> Result<usize, Fault>
+    ensures { IfOk result (λ n. n ≤ most) }
+{
+    number(text).filter(|n| *n <= most).ok_or(Fault::Unread)
+}
+
+/// The items of a list, with a comma between two of them; none where it is a dash.
+pub fn read_items<T: Drop, F: FnMut(&str) -> Result<T, Fault> + Drop>(
+    heap: Global,
+    text: &str,
+    item: F,
+) -> Result<Vec<T>, Fault>
+    requires { (state : F) (part : _) → F.pre state part }
+{
+    if text == "-" {
+        return Ok(Vec::new(heap));
     }
+    text.split(',').map(item).try_collect(heap)
 }
 
 /// The numbers of a list, with a comma between two of them; none where it is a dash.
@@ -37,14 +51,7 @@ pub fn read_list<T: FromStr + Drop>(heap: Global, text: &str) -> Result<Vec<T>, 
 where
     T::Err: Drop,
 {
-    let mut all = Vec::new(heap);
-    if text == "-" {
-        return Ok(all);
-    }
-    for part in text.split(',') {
-        all.push(read_number(part)?)?;
-    }
-    Ok(all)
+    read_items(heap, text, |part| read_number(part))
 }
 
 // The most places that a row may have.
@@ -54,8 +61,5 @@ const MAX_PLACES: usize = 1000;
 pub fn read_length(text: &str) -> Result<usize, Fault>
     ensures { IfOk result (λ n. n ≤ 1000) }
 {
-    match number::<usize>(text) {
-        Some(n) if n <= MAX_PLACES => Ok(n),
-        _ => Err(Fault::Unread),
-    }
+    read_at_most(text, MAX_PLACES)
 }

@@ -9,10 +9,7 @@ use std::fmt;
 
 // The character of a number.
 fn read_char(text: &str) -> Result<char, Fault> {
-    match char::from_u32(read_number(text)?) {
-        Some(c) => Ok(c),
-        None => Err(Fault::Unread),
-    }
+    char::from_u32(read_number(text)?).ok_or(Fault::Unread)
 }
 
 // The record of a field.
@@ -35,11 +32,10 @@ fn read_record(heap: Global, text: &str) -> Result<Record, Fault> {
 
 /// The records of these fields.
 pub fn read_records(heap: Global, fields: &[&str]) -> Result<Vec<Record>, Fault> {
-    let mut all = Vec::new(heap);
-    for field in fields {
-        all.push(read_record(heap, field)?)?;
-    }
-    Ok(all)
+    fields
+        .iter()
+        .map(|field| read_record(heap, field))
+        .try_collect(heap)
 }
 
 /// A record of a file, with its letters as themselves.

@@ -3,8 +3,9 @@ ghost use Rattle.std.specs.Prelude.{◌≡◌, IfSome};
 ghost use Rattle.arithmetic.specs.Formats.{width};
 
 use crate::fault::Fault;
-use crate::numbers::read_number;
-use crate::settings::{read_overflow, read_rounding};
+use crate::numbers::{number, read_number};
+use crate::settings::read_letter;
+use arithmetic::choice::{OverflowChoice, RoundingChoice};
 use arithmetic::format::Format;
 use arithmetic::overflow::{Overflow, Stored};
 use arithmetic::rounding::Rounding;
@@ -19,15 +20,12 @@ fn format_of(fraction: u32) -> Option<Format>
 
 // The format of 24 bits whose fraction bits a field says.
 fn read_format(bits: &str) -> Result<Format, Fault> {
-    match format_of(read_number(bits)?) {
-        Some(format) => Ok(format),
-        None => Err(Fault::Unread),
-    }
+    format_of(read_number(bits)?).ok_or(Fault::Unread)
 }
 
 /// A quotient with its remainder.
 pub fn print_round(rt: &HostRuntime, rule: &str, bits: &str, p: &str) -> Result<(), Fault> {
-    let rule = read_rounding(rule)?;
+    let rule: RoundingChoice = read_letter(rule)?;
     let format = read_format(bits)?;
     let (q, r) = rule.divide(read_number(p)?, &format);
     println!(rt; "{q} {r}")?;
@@ -39,24 +37,21 @@ const MAX_MAGNITUDE: u64 = 1 << 62;
 
 /// A rule's share, and its reach of a magnitude.
 pub fn print_reach(rt: &HostRuntime, rule: &str, bits: &str, m: &str) -> Result<(), Fault> {
-    let rule = read_rounding(rule)?;
+    let rule: RoundingChoice = read_letter(rule)?;
     let format = read_format(bits)?;
-    let m = read_number(m)?;
-    if m > MAX_MAGNITUDE {
-        return Err(Fault::Unread);
-    }
+    let m = number(m)
+        .filter(|m| *m <= MAX_MAGNITUDE)
+        .ok_or(Fault::Unread)?;
     println!(rt; "{} {}", rule.share(), rule.reach(m, &format))?;
     Ok(())
 }
 
 /// The word that a rule stores at a width. Widths are those of formats, 8 to 24.
 pub fn print_stored(rt: &HostRuntime, rule: &str, bits: &str, raw: &str) -> Result<(), Fault> {
-    let rule = read_overflow(rule)?;
+    let rule: OverflowChoice = read_letter(rule)?;
     let fraction = read_number::<u32>(bits)?.saturating_sub(1);
     let raw = read_number(raw)?;
-    let Ok(format) = Format::new(1, fraction) else {
-        return Err(Fault::Unread);
-    };
+    let format = Format::new(1, fraction).map_err(|_| Fault::Unread)?;
     match rule.store(raw, format.width()) {
         Stored::Word(word) => println!(rt; "{word}")?,
         Stored::Stopped => rt.println("stopped")?,

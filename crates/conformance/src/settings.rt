@@ -1,37 +1,24 @@
 //! Settings: word formats and the letters of rules.
-ghost use Rattle.std.specs.Prelude.{◌≡◌, [], ◌∷◌, IfOk};
-ghost use Rattle.conformance.specs.Letters.{rounding_letter, overflow_letter};
+ghost use Rattle.std.specs.Prelude.{◌≡◌, [], ◌∷◌, IfOk, MatchResult};
+ghost use Rattle.conformance.specs.Letters.{Letter, NoLetter, rounding_letter, overflow_letter};
 
 use crate::fault::Fault;
 use crate::numbers::read_number;
 use arithmetic::choice::{OverflowChoice, RoundingChoice};
 use arithmetic::setting::Setting;
+use materials::letters::FromLetter;
 
 /// A setting whose rules were chosen by letters.
 pub type Chosen = Setting<RoundingChoice, OverflowChoice>;
 
-/// The rounding rule of a field.
-pub fn read_rounding(text: &str) -> Result<RoundingChoice, Fault>
-    ensures { IfOk result (λ c. text.now ≡ rounding_letter c ∷ []) }
+/// What the one letter of a field stands for.
+pub fn read_letter<T: FromLetter + Drop>(text: &str) -> Result<T, Fault>
+    ensures { MatchResult result (Letter T.meant_by text.now) (λ _. NoLetter T.meant_by text.now) }
 {
-    match text {
-        "F" => Ok(RoundingChoice::Floor),
-        "N" => Ok(RoundingChoice::Nearest),
-        "Z" => Ok(RoundingChoice::TowardZero),
-        _ => Err(Fault::Unread),
-    }
-}
-
-/// The overflow rule of a field.
-pub fn read_overflow(text: &str) -> Result<OverflowChoice, Fault>
-    ensures { IfOk result (λ c. text.now ≡ overflow_letter c ∷ []) }
-{
-    match text {
-        "W" => Ok(OverflowChoice::Wrap),
-        "S" => Ok(OverflowChoice::Saturate),
-        "X" => Ok(OverflowChoice::Stop),
-        _ => Err(Fault::Unread),
-    }
+    let [letter] = text.as_bytes() else {
+        return Err(Fault::Unread);
+    };
+    T::from_letter(char::from(*letter)).ok_or(Fault::Unread)
 }
 
 /// The setting of four fields; its format may be none.
@@ -40,11 +27,14 @@ pub fn read_setting(
     fraction: &str,
     rounding: &str,
     overflow: &str,
-) -> Result<Chosen, Fault> {
+) -> Result<Chosen, Fault>
+    ensures rounding { IfOk result (λ s. rounding.now ≡ rounding_letter s.rounding ∷ []) }
+    ensures overflow { IfOk result (λ s. overflow.now ≡ overflow_letter s.overflow ∷ []) }
+{
     Ok(Setting {
         whole: u32::from(read_number::<u8>(whole)?),
         fraction: u32::from(read_number::<u8>(fraction)?),
-        rounding: read_rounding(rounding)?,
-        overflow: read_overflow(overflow)?,
+        rounding: read_letter(rounding)?,
+        overflow: read_letter(overflow)?,
     })
 }

@@ -2,7 +2,7 @@
 use crate::fault::Fault;
 use crate::numbers::{read_length, read_list, read_number};
 use crate::settings::Chosen;
-use crate::show::{List, OrDash};
+use crate::show::{List, Refused};
 use crate::wirings::read_wiring;
 use sheet::figures::{Figures, SheetFault};
 use sheet::sheet::sheet;
@@ -39,13 +39,7 @@ fn print_verdict(rt: &HostRuntime, answer: Result<Figures, SheetFault>) -> Resul
             "fits {} {} {} {}",
             figures.peak, figures.ceiling, figures.count, figures.band
         )?,
-        Err(fault) => {
-            let node = match fault {
-                SheetFault::Node(node, _) => Some(node),
-                _ => None,
-            };
-            print!(rt; "refused {} {}", fault.number(), OrDash(node))?;
-        }
+        Err(fault) => print!(rt; "{}", Refused::from(fault))?,
     }
     Ok(())
 }

@@ -1,6 +1,8 @@
 //! How numbers, values, nodes, lists and the watch are shown.
+use channel::fault::CallFault;
 use channel::state::State;
 use kinds::values::{Bound, Enclosed, Word};
+use sheet::figures::SheetFault;
 use std::fmt;
 use wiring::graph::Node;
 
@@ -10,6 +12,7 @@ pub trait Shown {
     fn show<W: fmt::Write>(&self, f: &mut fmt::Formatter<W>) -> fmt::Result;
 }
 
+// Four of a form, and no plainer as one: an impl for every T: Display conflicts with those of values and nodes below.
 impl Shown for i32 {
     fn show<W: fmt::Write>(&self, f: &mut fmt::Formatter<W>) -> fmt::Result {
         write!(f, "{self}")
@@ -100,15 +103,45 @@ impl<T: Shown> fmt::Display for List<'_, T> {
     }
 }
 
-/// A number, or a dash where there is none.
+/// The number of a refusal, with the node or the record that it names, or a dash where it names none.
 #[derive(Drop)]
-pub struct OrDash(pub Option<usize>);
+pub struct Refused {
+    pub number: u32,
+    pub place: Option<usize>,
+}
 
-impl fmt::Display for OrDash {
+impl From<CallFault> for Refused {
+    fn from(fault: CallFault) -> Refused {
+        let place = match fault {
+            CallFault::Node(node, _) => Some(node),
+            _ => None,
+        };
+        Refused {
+            number: fault.number(),
+            place,
+        }
+    }
+}
+
+impl From<SheetFault> for Refused {
+    fn from(fault: SheetFault) -> Refused {
+        let place = match fault {
+            SheetFault::Node(node, _) => Some(node),
+            _ => None,
+        };
+        Refused {
+            number: fault.number(),
+            place,
+        }
+    }
+}
+
+impl fmt::Display for Refused {
     fn fmt<W: fmt::Write>(&self, f: &mut fmt::Formatter<W>) -> fmt::Result {
-        match self.0 {
-            Some(n) => write!(f, "{n}"),
-            None => f.write_str("-"),
+        let number = self.number;
+        match self.place {
+            Some(place) => write!(f, "refused {number} {place}"),
+            None => write!(f, "refused {number} -"),
         }
     }
 }

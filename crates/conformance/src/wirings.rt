@@ -1,6 +1,6 @@
 //! Wirings, read and shown.
 use crate::fault::Fault;
-use crate::numbers::{number, read_list, read_number};
+use crate::numbers::{number, read_items, read_list, read_number};
 use crate::show::List;
 use std::alloc::Global;
 use std::fmt;
@@ -35,21 +35,6 @@ fn node(text: &str) -> Option<Node> {
     Some(Node::Difference(p, q))
 }
 
-// The nodes of a list; none where it is a dash.
-fn read_nodes(heap: Global, text: &str) -> Result<Vec<Node>, Fault> {
-    let mut all = Vec::new(heap);
-    if text == "-" {
-        return Ok(all);
-    }
-    for part in text.split(',') {
-        match node(part) {
-            Some(node) => all.push(node)?,
-            None => return Err(Fault::Unread),
-        }
-    }
-    Ok(all)
-}
-
 /// The wiring of a field.
 pub fn read_wiring(heap: Global, text: &str) -> Result<Wiring, Fault> {
     let parts: Vec<&str> = text.split('/').collect(heap)?;
@@ -57,7 +42,7 @@ pub fn read_wiring(heap: Global, text: &str) -> Result<Wiring, Fault> {
         return Err(Fault::Unread);
     };
     Ok(Wiring {
-        nodes: read_nodes(heap, nodes)?,
+        nodes: read_items(heap, nodes, |part| node(part).ok_or(Fault::Unread))?,
         coefficients: read_number(coefficients)?,
         output: read_number(output)?,
         sources: read_list(heap, sources)?,
