@@ -11,10 +11,7 @@ use std::test::Fail;
 fn fault(whole: u32, fraction: u32) -> Option<FormatFault>
     ensures { result ≡ format_fault whole fraction }
 {
-    match Format::new(whole, fraction) {
-        Ok(_) => None,
-        Err(fault) => Some(fault),
-    }
+    Format::new(whole, fraction).err()
 }
 
 // The same by way of a setting.
@@ -27,10 +24,7 @@ fn setting_fault(whole: u32, fraction: u32) -> Option<FormatFault>
         rounding: Floor,
         overflow: Wrap,
     };
-    match setting.check() {
-        Ok(_) => None,
-        Err(fault) => Some(fault),
-    }
+    setting.check().err()
 }
 
 #[test]
