@@ -11,7 +11,7 @@ mod tests {
     use kinds::enclosures::EnclosedKind;
     use kinds::kind::Kind;
     use kinds::refusal::Refusal;
-    use kinds::values::{Bound, Enclosed};
+    use kinds::values::{Bound, Enclosed, Word};
     use kinds::words::WordKind;
     use std::test::Fail;
 
@@ -33,14 +33,23 @@ mod tests {
 
     #[test]
     fn overflow_moves_both_ends(rt: HostRuntime) -> Result<(), Fail> {
-        let v = hundreds(&setting(Floor, Saturate)?)?;
-        assert_eq!(rt; (v.word, v.low, v.high), (127, 299008, 299008));
-        let v = hundreds(&setting(Floor, Wrap)?)?;
-        assert_eq!(rt; (v.word, v.low, v.high), (-56, 1048576, 1048576));
-        let Err(why) = hundreds(&setting(Floor, Stop)?) else {
-            return Err(Fail::new("taken"));
-        };
-        assert_eq!(rt; why, Refusal::Overflow);
+        assert_eq!(rt;
+            hundreds(&setting(Floor, Saturate)?),
+            Ok(Enclosed {
+                word: 127,
+                low: 299008,
+                high: 299008
+            })
+        );
+        assert_eq!(rt;
+            hundreds(&setting(Floor, Wrap)?),
+            Ok(Enclosed {
+                word: -56,
+                low: 1048576,
+                high: 1048576
+            })
+        );
+        assert_eq!(rt; hundreds(&setting(Floor, Stop)?), Err(Refusal::Overflow));
         Ok(())
     }
 
@@ -49,19 +58,19 @@ mod tests {
         let s = setting(Floor, Wrap)?;
         let v = WordKind.scale(&s, Coefficient { value: 8 }, WordKind.sample(&s, 1)?)?;
         let sum = WordKind.sum(&s, v, v)?;
-        assert_eq!(rt; (v.word, sum.word), (0, 0));
+        assert_eq!(rt; [v, sum], [Word { word: 0 }; 2]);
         Ok(())
     }
 
     #[test]
     fn samples_of_the_bound_kind(rt: HostRuntime) -> Result<(), Fail> {
         let s = setting(Floor, Wrap)?;
-        let v = BoundKind.sample(&s, 127)?;
-        assert_eq!(rt; (v.peak, v.ceiling), (127, 0));
-        let Err(why) = BoundKind.sample(&s, -128) else {
-            return Err(Fail::new("taken"));
+        let largest = Bound {
+            peak: 127,
+            ceiling: 0,
         };
-        assert_eq!(rt; why, Refusal::Peak);
+        assert_eq!(rt; BoundKind.sample(&s, 127), Ok(largest));
+        assert_eq!(rt; BoundKind.sample(&s, -128), Err(Refusal::Peak));
         Ok(())
     }
 
@@ -83,10 +92,24 @@ mod tests {
         let zero = EnclosedKind.zero(&s);
         let mut y = panel(&EnclosedKind, &s, EnclosedKind.sample(&s, 64)?, zero)?;
         for word in [32, 16, 8, 4, 2, 1] {
-            assert_eq!(rt; (y.word, y.low, y.high), (word, 0, 0));
+            assert_eq!(rt;
+                y,
+                Enclosed {
+                    word,
+                    low: 0,
+                    high: 0
+                }
+            );
             y = panel(&EnclosedKind, &s, zero, y)?;
         }
-        assert_eq!(rt; (y.word, y.low, y.high), (0, 2048, 2048));
+        assert_eq!(rt;
+            y,
+            Enclosed {
+                word: 0,
+                low: 2048,
+                high: 2048
+            }
+        );
         Ok(())
     }
 
@@ -97,8 +120,10 @@ mod tests {
             peak: 63,
             ceiling: 16384,
         };
-        let y = panel(&BoundKind, &s, BoundKind.sample(&s, 64)?, box_entry)?;
-        assert_eq!(rt; (y.peak, y.ceiling), (63, 16384));
+        assert_eq!(rt;
+            panel(&BoundKind, &s, BoundKind.sample(&s, 64)?, box_entry),
+            Ok(box_entry)
+        );
         Ok(())
     }
 
@@ -110,12 +135,14 @@ mod tests {
             low: -274877906944,
             high: 274877906944,
         };
-        let v = EnclosedKind.scale(&s, Coefficient { value: 16 }, far)?;
-        assert_eq!(rt; (v.low, v.high), (far.low, far.high));
-        let Err(why) = EnclosedKind.scale(&s, Coefficient { value: 17 }, far) else {
-            return Err(Fail::new("taken"));
-        };
-        assert_eq!(rt; why, Refusal::End);
+        assert_eq!(rt;
+            EnclosedKind.scale(&s, Coefficient { value: 16 }, far),
+            Ok(far)
+        );
+        assert_eq!(rt;
+            EnclosedKind.scale(&s, Coefficient { value: 17 }, far),
+            Err(Refusal::End)
+        );
         Ok(())
     }
 }
