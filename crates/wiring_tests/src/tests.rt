@@ -26,36 +26,29 @@ fn wired(
     })
 }
 
-fn fault(
-    heap: Global,
-    nodes: &[Node],
-    coefficients: usize,
-    output: usize,
-    sources: &[usize],
-) -> Result<Option<WiringFault>, AllocError> {
-    Ok(wired(heap, nodes, coefficients, output, sources)?.fault())
-}
-
 #[test]
 fn counts_come_first(rt: HostRuntime) -> Result<(), Fail> {
     let heap = rt.alloc();
     assert_eq!(rt;
-        fault(heap, &[], 18, 9, &[0; 17])?,
+        wired(heap, &[], 18, 9, &[0; 17])?.fault(),
         Some(WiringFault::NodeCount)
     );
     assert_eq!(rt;
-        fault(heap, &[Node::Sum(0, 0); 65], 0, 0, &[])?,
+        wired(heap, &[Node::Sum(0, 0); 65], 0, 0, &[])?.fault(),
         Some(WiringFault::NodeCount)
     );
     assert_eq!(rt;
-        fault(heap, &[Node::Sum(0, 0)], 18, 9, &[9; 17])?,
+        wired(heap, &[Node::Sum(0, 0)], 18, 9, &[9; 17])?.fault(),
         Some(WiringFault::RegisterCount)
     );
     assert_eq!(rt;
-        fault(heap, &[Node::Sum(0, 0)], 18, 9, &[9; 16])?,
+        wired(heap, &[Node::Sum(0, 0)], 18, 9, &[9; 16])?.fault(),
         Some(WiringFault::CoefficientCount)
     );
-    assert_eq!(rt; fault(heap, &[Node::Input; 64], 17, 63, &[63; 16])?, None);
+    assert_eq!(rt;
+        wired(heap, &[Node::Input; 64], 17, 63, &[63; 16])?.fault(),
+        None
+    );
     Ok(())
 }
 
@@ -63,15 +56,15 @@ fn counts_come_first(rt: HostRuntime) -> Result<(), Fail> {
 fn names_come_before_ends(rt: HostRuntime) -> Result<(), Fail> {
     let heap = rt.alloc();
     assert_eq!(rt;
-        fault(heap, &[Node::Sum(0, 0)], 0, 9, &[9])?,
+        wired(heap, &[Node::Sum(0, 0)], 0, 9, &[9])?.fault(),
         Some(WiringFault::NotEarlier(0))
     );
     assert_eq!(rt;
-        fault(heap, &[Node::Input, Node::Difference(0, 1)], 0, 0, &[])?,
+        wired(heap, &[Node::Input, Node::Difference(0, 1)], 0, 0, &[])?.fault(),
         Some(WiringFault::NotEarlier(1))
     );
     assert_eq!(rt;
-        fault(heap, &[Node::Input, Node::Register(1)], 0, 0, &[0])?,
+        wired(heap, &[Node::Input, Node::Register(1)], 0, 0, &[0])?.fault(),
         Some(WiringFault::NoRegister(1))
     );
     let scale = Node::Scale {
@@ -79,19 +72,19 @@ fn names_come_before_ends(rt: HostRuntime) -> Result<(), Fail> {
         coefficient: 1,
     };
     assert_eq!(rt;
-        fault(heap, &[Node::Input, scale], 1, 0, &[])?,
+        wired(heap, &[Node::Input, scale], 1, 0, &[])?.fault(),
         Some(WiringFault::NoCoefficient(1))
     );
     assert_eq!(rt;
-        fault(heap, &[scale], 1, 0, &[])?,
+        wired(heap, &[scale], 1, 0, &[])?.fault(),
         Some(WiringFault::NotEarlier(0))
     );
     assert_eq!(rt;
-        fault(heap, &[Node::Input], 0, 1, &[1])?,
+        wired(heap, &[Node::Input], 0, 1, &[1])?.fault(),
         Some(WiringFault::NoOutput)
     );
     assert_eq!(rt;
-        fault(heap, &[Node::Input], 0, 0, &[0, 1])?,
+        wired(heap, &[Node::Input], 0, 0, &[0, 1])?.fault(),
         Some(WiringFault::NoSource(1))
     );
     Ok(())
@@ -101,10 +94,7 @@ fn names_come_before_ends(rt: HostRuntime) -> Result<(), Fail> {
 fn program_fault(heap: Global, coefficients: &[i32]) -> Result<Option<ProgramFault>, Fail> {
     let format = Format::new(4, 4)?;
     let wiring = wired(heap, &[Node::Input], 1, 0, &[])?;
-    match Program::new(&format, wiring, coefficients.to_vec(heap)?) {
-        Ok(_) => Ok(None),
-        Err(fault) => Ok(Some(fault)),
-    }
+    Ok(Program::new(&format, wiring, coefficients.to_vec(heap)?).err())
 }
 
 #[test]
@@ -148,37 +138,38 @@ fn setting() -> Result<FixedPoint<Floor, Stop>, Fail> {
     })
 }
 
+fn word(word: i32) -> Word {
+    Word { word }
+}
+
 #[test]
 fn registers_move_together(rt: HostRuntime) -> Result<(), Fail> {
     let program = delays(rt.alloc())?;
-    let mut registers = [Word { word: 5 }, Word { word: 7 }, Word { word: 9 }];
-    let mut working = [Word { word: 1 }; 6];
+    let mut registers = [word(5), word(7), word(9)];
+    let mut working = [word(1); 6];
     program.work(&WordKind, &setting()?, &registers, &mut working, 100)?;
     assert_eq!(rt;
-        (working[3].word, working[4].word, working[5].word),
-        (105, 112, 1)
+        [working[3], working[4], working[5]],
+        [word(105), word(112), word(1)]
     );
     program.take_registers(&mut registers, &working)?;
-    assert_eq!(rt;
-        (registers[0].word, registers[1].word, registers[2].word),
-        (100, 5, 9)
-    );
+    assert_eq!(rt; registers, [word(100), word(5), word(9)]);
     Ok(())
 }
 
 #[test]
 fn a_refused_node_leaves_zeros(rt: HostRuntime) -> Result<(), Fail> {
     let program = delays(rt.alloc())?;
-    let registers = [Word { word: 27 }, Word { word: 0 }];
-    let mut working = [Word { word: 1 }; 6];
+    let registers = [word(27), word(0)];
+    let mut working = [word(1); 6];
     let told = program.work(&WordKind, &setting()?, &registers, &mut working, 100);
     assert_eq!(rt; told, Ok(()));
-    let registers = [Word { word: 28 }, Word { word: 0 }];
+    let registers = [word(28), word(0)];
     let told = program.work(&WordKind, &setting()?, &registers, &mut working, 100);
     assert_eq!(rt; told, Err(RunFault::Node(3, Refusal::Overflow)));
     assert_eq!(rt;
-        (working[0].word, working[4].word, working[5].word),
-        (0, 0, 1)
+        [working[0], working[4], working[5]],
+        [word(0), word(0), word(1)]
     );
     Ok(())
 }
@@ -186,18 +177,18 @@ fn a_refused_node_leaves_zeros(rt: HostRuntime) -> Result<(), Fail> {
 #[test]
 fn short_rows_are_refused(rt: HostRuntime) -> Result<(), Fail> {
     let program = delays(rt.alloc())?;
-    let mut short = [Word { word: 3 }];
-    let mut working = [Word { word: 1 }; 4];
+    let mut short = [word(3)];
+    let mut working = [word(1); 4];
     let told = program.work(&WordKind, &setting()?, &short, &mut working, 100);
     assert_eq!(rt; told, Err(RunFault::Row(RowFault::Registers)));
-    assert_eq!(rt; working[0].word, 1);
-    let long = [Word { word: 3 }; 2];
+    assert_eq!(rt; working[0], word(1));
+    let long = [word(3); 2];
     let told = program.work(&WordKind, &setting()?, &long, &mut working, 100);
     assert_eq!(rt; told, Err(RunFault::Row(RowFault::Working)));
     assert_eq!(rt;
         program.zero_registers(&WordKind, &setting()?, &mut short),
         Err(RunFault::Row(RowFault::Registers))
     );
-    assert_eq!(rt; short[0].word, 3);
+    assert_eq!(rt; short, [word(3)]);
     Ok(())
 }
