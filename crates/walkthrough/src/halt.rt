@@ -10,13 +10,13 @@ use arithmetic::format::FormatFault;
 use forms::form::FormFault;
 use materials::refusal::{RecordFault, Refusal};
 use std::alloc::AllocError;
-use std::io;
+use std::{fmt, io};
 use wiring::faults::{ProgramFault, RunFault};
 
 // Why the walk stopped before its end.
 #[derive(Drop)]
 pub enum Halt {
-    // Refused by a number.
+    // Refused by a number. Numbers, and not the faults, are what specs/ says of a halt and what is printed.
     Refused(u32),
     // Refused by a number at a node.
     AtNode(u32, usize),
@@ -26,6 +26,18 @@ pub enum Halt {
     Memory,
     // A line could not be printed.
     Print(io::Error),
+}
+
+impl fmt::Display for Halt {
+    fn fmt<W: fmt::Write>(&self, f: &mut fmt::Formatter<W>) -> fmt::Result {
+        match self {
+            Halt::Refused(number) => write!(f, "refused by {number}"),
+            Halt::AtNode(number, node) => write!(f, "refused by {number} at node {node}"),
+            Halt::InRecord(number, record) => write!(f, "refused by {number} in record {record}"),
+            Halt::Memory => f.write_str("memory ran out"),
+            Halt::Print(e) => write!(f, "{e}"),
+        }
+    }
 }
 
 impl From<FormatFault> for Halt {

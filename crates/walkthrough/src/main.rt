@@ -62,12 +62,7 @@ fn main(rt: HostRuntime) -> io::Result<()> {
     rt.stdin().take(65001).read_to_end(&mut file)?;
     match walk(&rt, &file) {
         Ok(()) => Ok(()),
-        Err(Halt::Refused(number)) => println!(rt; "refused by {number}"),
-        Err(Halt::AtNode(number, node)) => println!(rt; "refused by {number} at node {node}"),
-        Err(Halt::InRecord(number, record)) => println!(rt;
-            "refused by {number} in record {record}"
-        ),
-        Err(Halt::Memory) => rt.println("memory ran out"),
         Err(Halt::Print(e)) => Err(e),
+        Err(halt) => println!(rt; "{halt}"),
     }
 }

@@ -4,7 +4,7 @@ use forms::form::Form;
 use kinds::values::Enclosed;
 use materials::letters::Choices;
 use materials::record::Record;
-use std::io;
+use std::{fmt, io};
 use wiring::graph::Node;
 use wiring::program::Program;
 
@@ -23,12 +23,17 @@ pub fn print_format(rt: &HostRuntime, format: &Format) -> io::Result<()> {
     println!(rt; "words from {low} to {high}, in steps of 1/{unit}")
 }
 
-// A record's name.
-fn print_name(rt: &HostRuntime, name: &[u8]) -> io::Result<()> {
-    for b in name {
-        print!(rt; "{}", *b as char)?;
+// A record's name, a character for each byte.
+#[derive(Drop)]
+struct Name<'a>(&'a [u8]);
+
+impl fmt::Display for Name<'_> {
+    fn fmt<W: fmt::Write>(&self, f: &mut fmt::Formatter<W>) -> fmt::Result {
+        for b in self.0 {
+            f.write_char(char::from(*b))?;
+        }
+        Ok(())
     }
-    Ok(())
 }
 
 // How long the file is, and the names of its records.
@@ -39,9 +44,7 @@ pub fn print_file(rt: &HostRuntime, file: &[u8], records: &[Record]) -> io::Resu
         records.len()
     )?;
     for (i, record) in records.iter().enumerate() {
-        print!(rt; "  record {}: ", i.saturating_add(1))?;
-        print_name(rt, &record.name)?;
-        println!(rt; "")?;
+        println!(rt; "  record {}: {}", i.saturating_add(1), Name(&record.name))?;
     }
     Ok(())
 }
@@ -81,20 +84,23 @@ pub fn print_coefficients(
     Ok(())
 }
 
-// One node in words.
-fn print_node(rt: &HostRuntime, k: usize, node: Node, coefficients: &[i32]) -> io::Result<()> {
-    match node {
-        Node::Input => println!(rt; "  node {k}: the sample"),
-        Node::Zero => println!(rt; "  node {k}: zero"),
-        Node::Register(r) => println!(rt; "  node {k}: register {r}"),
-        Node::Scale { node, coefficient } => match coefficients.get(coefficient) {
-            Some(c) => println!(rt;
-                "  node {k}: node {node} times coefficient {coefficient} ({c})"
-            ),
-            None => println!(rt; "  node {k}: node {node} times coefficient {coefficient}"),
-        },
-        Node::Sum(p, q) => println!(rt; "  node {k}: node {p} plus node {q}"),
-        Node::Difference(p, q) => println!(rt; "  node {k}: node {p} minus node {q}"),
+// A node in words, with the coefficients of its program.
+#[derive(Drop)]
+struct InWords<'a>(Node, &'a [i32]);
+
+impl fmt::Display for InWords<'_> {
+    fn fmt<W: fmt::Write>(&self, f: &mut fmt::Formatter<W>) -> fmt::Result {
+        match self.0 {
+            Node::Input => f.write_str("the sample"),
+            Node::Zero => f.write_str("zero"),
+            Node::Register(r) => write!(f, "register {r}"),
+            Node::Scale { node, coefficient } => match self.1.get(coefficient) {
+                Some(c) => write!(f, "node {node} times coefficient {coefficient} ({c})"),
+                None => write!(f, "node {node} times coefficient {coefficient}"),
+            },
+            Node::Sum(p, q) => write!(f, "node {p} plus node {q}"),
+            Node::Difference(p, q) => write!(f, "node {p} minus node {q}"),
+        }
     }
 }
 
@@ -102,7 +108,7 @@ fn print_node(rt: &HostRuntime, k: usize, node: Node, coefficients: &[i32]) -> i
 pub fn print_wiring(rt: &HostRuntime, program: &Program) -> io::Result<()> {
     println!(rt; "the wiring")?;
     for (k, node) in program.nodes().iter().enumerate() {
-        print_node(rt, k, *node, program.coefficients())?;
+        println!(rt; "  node {k}: {}", InWords(*node, program.coefficients()))?;
     }
     let output = program.output();
     println!(rt; "  the output is node {output}")?;
