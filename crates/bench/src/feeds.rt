@@ -5,10 +5,10 @@ use arithmetic::rounding::{Rounding, TowardZero};
 use arithmetic::setting::Setting;
 use channel::channel::Channel;
 use channel::state::Limits;
-use forms::form::Form;
+use forms::form::{Filter, Form};
 use kinds::kind::Kind;
 use materials::record::Record;
-use std::alloc::{AllocError, Global};
+use std::alloc::Global;
 
 // The record's format, toward zero and wrapping.
 pub fn setting_of(record: &Record) -> Setting<TowardZero, Wrap> {
@@ -20,13 +20,11 @@ pub fn setting_of(record: &Record) -> Setting<TowardZero, Wrap> {
     }
 }
 
-// So many zeros.
-fn zeros<V: Copy>(heap: Global, zero: V, count: usize) -> Result<Vec<V>, AllocError> {
-    let mut row = Vec::new(heap);
-    for _ in 0..count {
-        row.push(zero)?;
-    }
-    Ok(row)
+// The record's filter in direct form 1.
+pub fn filter_of(heap: Global, record: &Record) -> anyhow::Result<Filter> {
+    Form::Direct1
+        .build(heap, &record.feedforward, &record.feedback)
+        .map_err(|_| anyhow!("the filter is refused"))
 }
 
 // Feeds so many samples of 12 bits, and answers the digest of the outputs and refusals.
@@ -63,16 +61,14 @@ where
     K::Value: Digest,
 {
     let setting = setting_of(record);
-    let Ok(filter) = Form::Direct1.build(heap, &record.feedforward, &record.feedback) else {
-        return Err(anyhow!("the filter is refused"));
-    };
-    let Ok(checked) = setting.check() else {
-        return Err(anyhow!("the format is refused"));
-    };
+    let filter = filter_of(heap, record)?;
+    let checked = setting
+        .check()
+        .map_err(|_| anyhow!("the format is refused"))?;
     let zero = kind.zero(&checked);
-    let mut registers = zeros(heap, zero, filter.wiring.sources.len())?;
-    let mut working = zeros(heap, zero, filter.wiring.nodes.len())?;
-    let Ok(mut channel) = Channel::open(
+    let mut registers = vec![in heap; zero; filter.wiring.sources.len()]?;
+    let mut working = vec![in heap; zero; filter.wiring.nodes.len()]?;
+    let mut channel = Channel::open(
         kind,
         &setting,
         filter.wiring,
@@ -82,8 +78,7 @@ where
             range: 2047,
             count: 100,
         }),
-    ) else {
-        return Err(anyhow!("the channel is refused"));
-    };
+    )
+    .map_err(|_| anyhow!("the channel is refused"))?;
     Ok(drive(&mut channel, &mut registers, &mut working, count))
 }

@@ -20,10 +20,8 @@ use std::io::Read;
 // The four counts of the arguments; one that is absent is 0.
 fn counts(rt: &HostRuntime) -> anyhow::Result<[u64; 4]> {
     let mut counts = [0u64; 4];
-    for (i, arg) in env::args(rt)?.skip(1).enumerate() {
-        if i < 4 {
-            counts[i] = arg.as_str().parse::<u64>()?;
-        }
+    for (count, arg) in counts.iter_mut().zip(env::args(rt)?.skip(1)) {
+        *count = arg.as_str().parse()?;
     }
     Ok(counts)
 }
@@ -33,12 +31,10 @@ fn run(rt: &HostRuntime) -> anyhow::Result<()> {
     let [words, enclosed, sheets, readings] = counts(rt)?;
     let mut file = Vec::new(heap);
     rt.stdin().take(65001).read_to_end(&mut file)?;
-    let Ok(records) = read(heap, &file) else {
-        return Err(anyhow!("the file is refused"));
-    };
-    let Some(record) = records.first() else {
-        return Err(anyhow!("the file has no record"));
-    };
+    let records = read(heap, &file).map_err(|_| anyhow!("the file is refused"))?;
+    let record = records
+        .first()
+        .ok_or_else(|| anyhow!("the file has no record"))?;
     println!(rt; "words {}", feed_all(heap, WordKind, record, words)?)?;
     println!(rt;
         "enclosed {}",

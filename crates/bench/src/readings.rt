@@ -5,11 +5,9 @@ use std::alloc::Global;
 
 // The digest with a list of coefficients.
 fn mix_words(digest: u64, words: &[i32]) -> u64 {
-    let mut all = digest;
-    for word in words {
-        all = mix(all, u64::from(word.unsigned_abs()));
-    }
-    all
+    words
+        .iter()
+        .fold(digest, |all, word| mix(all, u64::from(word.unsigned_abs())))
 }
 
 // The digest with the last of these records.
@@ -17,11 +15,11 @@ fn mix_last(digest: u64, records: &[Record]) -> u64 {
     let Some(record) = records.last() else {
         return digest;
     };
-    let mut all = digest;
-    for byte in &record.name {
-        all = mix(all, u64::from(*byte));
-    }
-    mix_words(mix_words(all, &record.feedforward), &record.feedback)
+    let name = record
+        .name
+        .iter()
+        .fold(digest, |all, byte| mix(all, u64::from(*byte)));
+    mix_words(mix_words(name, &record.feedforward), &record.feedback)
 }
 
 // Reads the file so many times, and answers the digest of the last records and of the refusals.
