@@ -2,7 +2,7 @@ ghost use Rattle.std.specs.Prelude.{◌≡◌};
 ghost use Rattle.arithmetic.specs.Formats.{format_fault};
 
 use arithmetic::format::{Format, FormatFault};
-use arithmetic::overflow::{Overflow, Saturate, Stop, Stored, Wrap};
+use arithmetic::overflow::{Overflow, Saturate, Stop, Wrap};
 use arithmetic::rounding::{Floor, Nearest, Rounding, TowardZero};
 use arithmetic::setting::Setting;
 use std::test::Fail;
@@ -96,14 +96,14 @@ fn reaches(rt: HostRuntime) -> Result<(), Fail> {
 fn stores(rt: HostRuntime) -> Result<(), Fail> {
     let format = Format::new(4, 4)?;
     let width = format.width();
-    assert_eq!(rt; Saturate.store(200, width), Stored::Word(127));
-    assert_eq!(rt; Wrap.store(200, width), Stored::Word(-56));
-    assert_eq!(rt; Stop.store(200, width), Stored::Stopped);
-    assert_eq!(rt; Saturate.store(i64::MIN, width), Stored::Word(-128));
-    assert_eq!(rt; Saturate.store(i64::MAX, width), Stored::Word(127));
-    assert_eq!(rt; Wrap.store(i64::MIN, width), Stored::Word(0));
-    assert_eq!(rt; Wrap.store(i64::MAX, width), Stored::Word(-1));
-    assert_eq!(rt; Stop.store(i64::MIN, width), Stored::Stopped);
-    assert_eq!(rt; Stop.store(i64::MAX, width), Stored::Stopped);
+    assert_eq!(rt; Saturate.store(200, width), Some(127));
+    assert_eq!(rt; Wrap.store(200, width), Some(-56));
+    assert_eq!(rt; Stop.store(200, width), None);
+    assert_eq!(rt; Saturate.store(i64::MIN, width), Some(-128));
+    assert_eq!(rt; Saturate.store(i64::MAX, width), Some(127));
+    assert_eq!(rt; Wrap.store(i64::MIN, width), Some(0));
+    assert_eq!(rt; Wrap.store(i64::MAX, width), Some(-1));
+    assert_eq!(rt; Stop.store(i64::MIN, width), None);
+    assert_eq!(rt; Stop.store(i64::MAX, width), None);
     Ok(())
 }

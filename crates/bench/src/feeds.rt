@@ -5,10 +5,11 @@ use arithmetic::rounding::{Rounding, TowardZero};
 use arithmetic::setting::Setting;
 use channel::channel::Channel;
 use channel::state::Limits;
-use forms::form::{Filter, Form};
+use forms::form::Form;
 use kinds::kind::Kind;
 use materials::record::Record;
 use std::alloc::Global;
+use wiring::graph::Filter;
 
 // The record's format, toward zero and wrapping.
 pub fn setting_of(record: &Record) -> Setting<TowardZero, Wrap> {
@@ -71,8 +72,7 @@ where
     let mut channel = Channel::open(
         kind,
         &setting,
-        filter.wiring,
-        filter.coefficients,
+        filter,
         &mut registers,
         Some(Limits {
             range: 2047,

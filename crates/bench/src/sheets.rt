@@ -21,8 +21,7 @@ fn make(heap: Global, record: &Record, digest: u64) -> anyhow::Result<u64> {
     let mut band = [0u32; MAX_REGISTERS];
     let answer = sheet(
         &setting_of(record),
-        filter.wiring,
-        filter.coefficients,
+        filter,
         2048,
         &mut peaks,
         &mut ceilings,

@@ -10,7 +10,7 @@ use kinds::values::Word;
 use kinds::words::WordKind;
 use std::alloc::{AllocError, Global};
 use std::test::Fail;
-use wiring::graph::{Node, Wiring};
+use wiring::graph::{Filter, Node, Wiring};
 
 // A wall panel in direct form 1: y = b0 × u - a1 × y1.
 fn panel(heap: Global, output: usize, feedback: usize) -> Result<Wiring, AllocError> {
@@ -53,7 +53,11 @@ fn open(
         rounding: TowardZero,
         overflow: Stop,
     };
-    Channel::open(WordKind, &setting, wiring, coefficients, row, limits)
+    let filter = Filter {
+        wiring,
+        coefficients,
+    };
+    Channel::open(WordKind, &setting, filter, row, limits)
 }
 
 fn settling(count: u64) -> Option<Limits> {

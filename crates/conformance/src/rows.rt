@@ -9,6 +9,7 @@ use crate::wirings::read_wiring;
 use arithmetic::choice::{OverflowChoice, RoundingChoice};
 use channel::channel::Channel;
 use kinds::kind::Kind;
+use wiring::graph::Filter;
 
 // Feeds one sample and prints its line.
 fn print_feed<K: Kind>(
@@ -57,10 +58,12 @@ impl Case for Rows {
         let fill = value_of(&kind, setting, read_fill(fill)?);
         let mut row = row_of(heap, fill.as_ref(), read_length(row)?)?;
         let mut working = row_of(heap, fill.as_ref(), read_length(working)?)?;
-        let wiring = read_wiring(heap, wiring)?;
-        let coefficients = read_list(heap, coefficients)?;
+        let filter = Filter {
+            wiring: read_wiring(heap, wiring)?,
+            coefficients: read_list(heap, coefficients)?,
+        };
         let samples: Vec<i32> = read_list(heap, samples)?;
-        match Channel::open(kind, setting, wiring, coefficients, &mut row, None) {
+        match Channel::open(kind, setting, filter, &mut row, None) {
             Ok(mut channel) => {
                 println!(rt; "opened {}", List(&row))?;
                 for sample in &samples {

@@ -7,7 +7,7 @@ use crate::numbers::{number, read_number};
 use crate::settings::read_letter;
 use arithmetic::choice::{OverflowChoice, RoundingChoice};
 use arithmetic::format::Format;
-use arithmetic::overflow::{Overflow, Stored};
+use arithmetic::overflow::Overflow;
 use arithmetic::rounding::Rounding;
 
 // The format of 24 bits with so many fraction bits.
@@ -53,8 +53,8 @@ pub fn print_stored(rt: &HostRuntime, rule: &str, bits: &str, raw: &str) -> Resu
     let raw = read_number(raw)?;
     let format = Format::new(1, fraction).map_err(|_| Fault::Unread)?;
     match rule.store(raw, format.width()) {
-        Stored::Word(word) => println!(rt; "{word}")?,
-        Stored::Stopped => rt.println("stopped")?,
+        Some(word) => println!(rt; "{word}")?,
+        None => rt.println("stopped")?,
     }
     Ok(())
 }

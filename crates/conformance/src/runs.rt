@@ -10,6 +10,7 @@ use crate::wirings::read_wiring;
 use kinds::kind::Kind;
 use replay::log::{Entry, ReplayFault, Told};
 use replay::replay::replay;
+use wiring::graph::Filter;
 
 // The line of a log's entry.
 fn print_entry<V: Shown>(rt: &HostRuntime, entry: &Entry<V>) -> Result<(), Fault> {
@@ -59,8 +60,10 @@ impl Case for Run {
             return Err(Fault::Unread);
         };
         let limits = read_limits(watch)?;
-        let wiring = read_wiring(heap, wiring)?;
-        let coefficients = read_list(heap, coefficients)?;
+        let filter = Filter {
+            wiring: read_wiring(heap, wiring)?,
+            coefficients: read_list(heap, coefficients)?,
+        };
         let zero = value_of(&kind, setting, 0);
         let calls = read_calls(heap, zero.as_ref(), calls)?;
         let mut row = row_of(heap, zero.as_ref(), read_length(row)?)?;
@@ -68,8 +71,7 @@ impl Case for Run {
             heap,
             kind,
             setting,
-            wiring,
-            coefficients,
+            filter,
             limits,
             &mut row,
             &calls,

@@ -7,6 +7,7 @@ use crate::wirings::read_wiring;
 use sheet::figures::{Figures, SheetFault};
 use sheet::sheet::sheet;
 use std::alloc::Global;
+use wiring::graph::Filter;
 
 // What each place of a row holds before the call.
 const BEFORE: u8 = 7;
@@ -52,10 +53,13 @@ pub fn print_sheet(rt: &HostRuntime, setting: Chosen, fields: &[&str]) -> Result
     };
     let range = read_number(range)?;
     let mut rows = read_rows(heap, rows)?;
+    let filter = Filter {
+        wiring: read_wiring(heap, wiring)?,
+        coefficients: read_list(heap, coefficients)?,
+    };
     let answer = sheet(
         &setting,
-        read_wiring(heap, wiring)?,
-        read_list(heap, coefficients)?,
+        filter,
         range,
         &mut rows.peaks,
         &mut rows.ceilings,

@@ -3,13 +3,14 @@
 
 mod halt;
 mod report;
-mod wall;
 
 use crate::halt::Halt;
 use crate::report::{
     print_choices, print_coefficients, print_file, print_format, print_step, print_wiring,
 };
-use crate::wall::{SAMPLES, setting_of, step, zero_row};
+use kinds::enclosures::EnclosedKind;
+use kinds::kind::Kind;
+use kinds::values::Values;
 use materials::look_up::look_up;
 use materials::read::read;
 use materials::record::Record;
@@ -17,26 +18,34 @@ use std::io;
 use std::io::Read;
 use wiring::program::Program;
 
+// A pulse, then silence.
+const SAMPLES: [i32; 7] = [64, 0, 0, 0, 0, 0, 0];
+
 // The record's filter made, then a pulse and six zeros worked over the enclosed kind.
 fn work(rt: &HostRuntime, record: &Record) -> Result<(), Halt> {
     let heap = rt.alloc();
     let choices = record.choices()?;
-    let setting = setting_of(record, choices).check()?;
+    let setting = record.setting(choices).check()?;
     print_format(rt, &setting.format)?;
     print_choices(rt, choices)?;
     let filter = choices
         .form
         .build(heap, &record.feedforward, &record.feedback)?;
     print_coefficients(rt, &setting.format, &filter.coefficients)?;
-    let program = Program::new(&setting.format, filter.wiring, filter.coefficients)?;
+    let program = Program::new(&setting.format, filter)?;
     print_wiring(rt, &program)?;
-    let mut registers = zero_row(heap, &setting, program.sources().len())?;
-    let mut working = zero_row(heap, &setting, program.nodes().len())?;
+    let zero = EnclosedKind.zero(&setting);
+    let mut registers = vec![in heap; zero; program.sources().len()]?;
+    let mut working = vec![in heap; zero; program.nodes().len()]?;
+    let values = Values {
+        kind: EnclosedKind,
+        setting,
+    };
     rt.println(
         "samples over words with an error enclosure; the ends are in ticks, 1/4096 of a step",
     )?;
     for sample in SAMPLES {
-        let output = step(&program, &setting, &mut registers, &mut working, sample)?;
+        let output = program.step(&values, &mut registers, &mut working, sample)?;
         print_step(rt, sample, output, &registers)?;
     }
     Ok(())
