@@ -11,16 +11,32 @@ pub const EXAMPLE: [u8; 64] = [
     240,
 ];
 
-// The number of a refusal and its record, 0 where it has none.
-pub fn told(refusal: Refusal) -> (u8, usize) {
-    (refusal.number().unwrap_or(0), refusal.record().unwrap_or(0))
+// What a check or a write tells of a file or a list.
+#[derive(Clone, Copy, Debug, PartialEq, Eq)]
+pub enum Told {
+    Accepted,
+    // Refused by this number.
+    Refused(u8),
+    // Refused by this number, which speaks of the record of the second number.
+    InRecord(u8, usize),
+    OutOfMemory,
 }
 
-// The same of a file, and two zeros for one that is accepted.
-pub fn told_of(file: &[u8]) -> (u8, usize) {
+impl From<Refusal> for Told {
+    fn from(refusal: Refusal) -> Told {
+        match (refusal.number(), refusal.record()) {
+            (Some(number), Some(record)) => Told::InRecord(number, record),
+            (Some(number), None) => Told::Refused(number),
+            (None, _) => Told::OutOfMemory,
+        }
+    }
+}
+
+// What the check of a file tells.
+pub fn told_of(file: &[u8]) -> Told {
     match check::check(file) {
-        Ok(_) => (0, 0),
-        Err(refusal) => told(refusal),
+        Ok(_) => Told::Accepted,
+        Err(refusal) => Told::from(refusal),
     }
 }
 

@@ -1,4 +1,5 @@
-use crate::builders::{EXAMPLE, told, told_of};
+use crate::builders::Told::{Accepted, InRecord, Refused};
+use crate::builders::{EXAMPLE, Told, told_of};
 use arithmetic::choice::{OverflowChoice, RoundingChoice};
 use forms::form::Form;
 use materials::look_up::look_up;
@@ -37,6 +38,20 @@ fn the_example_is_read(rt: HostRuntime) -> Result<(), Fail> {
 }
 
 #[test]
+fn the_setting_of_the_example(rt: HostRuntime) -> Result<(), Fail> {
+    let records = read(rt.alloc(), &EXAMPLE)?;
+    assert!(rt; records.len() == 2);
+    let oak = &records[0];
+    let setting = oak.setting(oak.choices()?);
+    assert_eq!(rt; (setting.whole, setting.fraction), (4, 4));
+    assert_eq!(rt;
+        (setting.rounding, setting.overflow),
+        (RoundingChoice::TowardZero, OverflowChoice::Wrap)
+    );
+    Ok(())
+}
+
+#[test]
 fn a_name_is_looked_up(rt: HostRuntime) -> Result<(), Fail> {
     let Ok(wall) = look_up(&EXAMPLE, b"echo wall") else {
         return Err(Fail::new("not found"));
@@ -50,7 +65,7 @@ fn a_name_is_looked_up(rt: HostRuntime) -> Result<(), Fail> {
     let Err(refusal) = look_up(&EXAMPLE, b"pine") else {
         return Err(Fail::new("found"));
     };
-    assert_eq!(rt; told(refusal), (11, 0));
+    assert_eq!(rt; Told::from(refusal), Refused(11));
     Ok(())
 }
 
@@ -62,62 +77,62 @@ fn the_example_is_written_again(rt: HostRuntime) {
     assert!(rt; &bytes[64..70] == &[7; 6][0..6]);
 }
 
-// A byte of the example changed: its place, its new value, the number and the record that are told.
-const CHANGES: [(usize, u8, u8, usize); 45] = [
-    (0, 2, 2, 0),
-    (1, 0, 3, 0),
-    (1, 1, 3, 0),
-    (5, 15, 3, 0),
-    (11, 38, 3, 0),
-    (13, 24, 3, 0),
-    (13, 26, 3, 0),
-    (14, 0, 4, 1),
-    (14, 41, 4, 1),
-    (14, 40, 4, 1),
-    (14, 18, 4, 1),
-    (14, 17, 4, 1),
-    (15, 31, 4, 1),
-    (15, 32, 0, 0),
-    (15, 126, 0, 0),
-    (15, 127, 4, 1),
-    (48, 127, 4, 2),
-    (24, b'2', 0, 0),
-    (24, b'T', 0, 0),
-    (24, b'3', 5, 1),
-    (25, b'F', 0, 0),
-    (25, b'N', 0, 0),
-    (25, b'z', 5, 1),
-    (26, b'S', 0, 0),
-    (26, b'X', 0, 0),
-    (26, b'Z', 5, 1),
-    (27, 0, 6, 1),
-    (27, 3, 6, 1),
-    (27, 20, 0, 0),
-    (27, 21, 6, 1),
-    (27, 255, 6, 1),
-    (28, 0, 6, 1),
-    (28, 3, 6, 1),
-    (28, 20, 0, 0),
-    (29, 0, 7, 1),
-    (29, 9, 8, 1),
-    (29, 10, 7, 1),
-    (30, 8, 8, 1),
-    (30, 9, 7, 1),
-    (30, 0, 8, 1),
-    (34, 127, 0, 0),
-    (34, 128, 9, 1),
-    (38, 128, 0, 0),
-    (38, 127, 9, 1),
-    (63, 127, 9, 2),
+// A byte of the example changed: its place, its new value, and what is told.
+const CHANGES: [(usize, u8, Told); 45] = [
+    (0, 2, Refused(2)),
+    (1, 0, Refused(3)),
+    (1, 1, Refused(3)),
+    (5, 15, Refused(3)),
+    (11, 38, Refused(3)),
+    (13, 24, Refused(3)),
+    (13, 26, Refused(3)),
+    (14, 0, InRecord(4, 1)),
+    (14, 41, InRecord(4, 1)),
+    (14, 40, InRecord(4, 1)),
+    (14, 18, InRecord(4, 1)),
+    (14, 17, InRecord(4, 1)),
+    (15, 31, InRecord(4, 1)),
+    (15, 32, Accepted),
+    (15, 126, Accepted),
+    (15, 127, InRecord(4, 1)),
+    (48, 127, InRecord(4, 2)),
+    (24, b'2', Accepted),
+    (24, b'T', Accepted),
+    (24, b'3', InRecord(5, 1)),
+    (25, b'F', Accepted),
+    (25, b'N', Accepted),
+    (25, b'z', InRecord(5, 1)),
+    (26, b'S', Accepted),
+    (26, b'X', Accepted),
+    (26, b'Z', InRecord(5, 1)),
+    (27, 0, InRecord(6, 1)),
+    (27, 3, InRecord(6, 1)),
+    (27, 20, Accepted),
+    (27, 21, InRecord(6, 1)),
+    (27, 255, InRecord(6, 1)),
+    (28, 0, InRecord(6, 1)),
+    (28, 3, InRecord(6, 1)),
+    (28, 20, Accepted),
+    (29, 0, InRecord(7, 1)),
+    (29, 9, InRecord(8, 1)),
+    (29, 10, InRecord(7, 1)),
+    (30, 8, InRecord(8, 1)),
+    (30, 9, InRecord(7, 1)),
+    (30, 0, InRecord(8, 1)),
+    (34, 127, Accepted),
+    (34, 128, InRecord(9, 1)),
+    (38, 128, Accepted),
+    (38, 127, InRecord(9, 1)),
+    (63, 127, InRecord(9, 2)),
 ];
 
 #[test]
 fn one_byte_is_changed(rt: HostRuntime) {
-    for (at, byte, number, record) in CHANGES {
+    for (at, byte, told) in CHANGES {
         let mut file = EXAMPLE;
         assert!(rt; at < 64);
         file[at] = byte;
-        assert_eq!(rt; told_of(&file), (number, record));
+        assert_eq!(rt; told_of(&file), told);
     }
 }
 
@@ -136,14 +151,14 @@ fn small_files(rt: HostRuntime) {
     assert_eq!(rt;
         told,
         [
-            (1, 0),
-            (1, 0),
-            (0, 0),
-            (3, 0),
-            (2, 0),
-            (2, 0),
-            (4, 1),
-            (2, 0),
+            Refused(1),
+            Refused(1),
+            Accepted,
+            Refused(3),
+            Refused(2),
+            Refused(2),
+            InRecord(4, 1),
+            Refused(2),
         ]
     );
 }
@@ -151,8 +166,8 @@ fn small_files(rt: HostRuntime) {
 #[test]
 fn noise_ends_at_once(rt: HostRuntime) {
     let noise = [7; 65001];
-    assert_eq!(rt; told_of(&noise), (1, 0));
-    assert_eq!(rt; told_of(&noise[0..65000]), (2, 0));
+    assert_eq!(rt; told_of(&noise), Refused(1));
+    assert_eq!(rt; told_of(&noise[0..65000]), Refused(2));
 }
 
 // The second record is given the first one's name.
@@ -160,5 +175,5 @@ fn noise_ends_at_once(rt: HostRuntime) {
 fn a_name_is_used_twice(rt: HostRuntime) {
     let mut file = EXAMPLE;
     file[40..49].copy_from_slice(b"oak panel");
-    assert_eq!(rt; told_of(&file), (10, 2));
+    assert_eq!(rt; told_of(&file), InRecord(10, 2));
 }

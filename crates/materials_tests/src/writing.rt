@@ -1,170 +1,77 @@
-use crate::builders::{PANEL, Sort, largest, record, told};
+use crate::builders::Told::{Accepted, InRecord, Refused};
+use crate::builders::{PANEL, Sort, Told, largest, record};
 use materials::check;
 use materials::read::read;
 use materials::write::write;
 use std::alloc::Global;
 use std::test::Fail;
 
-// What a write of one record tells, with zeros where it is written; a refused one leaves the destination.
-fn written(heap: Global, name: &[u8], sort: Sort) -> (u8, usize) {
+// What a write of one record tells; a refused one leaves the destination.
+fn written(heap: Global, name: &[u8], sort: Sort) -> Result<Told, Fail> {
     let mut bytes = [7; 200];
-    let Ok(item) = record(heap, name, sort) else {
-        return (99, 0);
-    };
+    let item = record(heap, name, sort)?;
     match write(&[item], &mut bytes) {
-        Ok(_) => (0, 0),
-        Err(refusal) => {
-            if bytes == [7; 200] {
-                told(refusal)
-            } else {
-                (99, 1)
-            }
-        }
+        Ok(_) => Ok(Accepted),
+        Err(_) if bytes != [7; 200] => Err(Fail::new("the destination has changed")),
+        Err(refusal) => Ok(Told::from(refusal)),
     }
 }
 
 #[test]
-fn names_and_letters_are_refused(rt: HostRuntime) {
+fn names_and_letters_are_refused(rt: HostRuntime) -> Result<(), Fail> {
     let heap = rt.alloc();
     let long = [b'n'; 41];
-    let told = [
-        written(heap, b"", PANEL),
-        written(heap, &long[0..40], PANEL),
-        written(heap, &long, PANEL),
-        written(heap, b"tab\t", PANEL),
-        written(
-            heap,
-            b"a",
-            Sort {
-                letters: ('3', 'Z', 'W'),
-                ..PANEL
-            },
-        ),
-        written(
-            heap,
-            b"a",
-            Sort {
-                letters: ('1', 'é', 'W'),
-                ..PANEL
-            },
-        ),
-        written(
-            heap,
-            b"a",
-            Sort {
-                letters: ('1', 'Z', '1'),
-                ..PANEL
-            },
-        ),
-    ];
-    assert_eq!(rt;
-        told,
-        [(4, 1), (0, 0), (4, 1), (4, 1), (5, 1), (5, 1), (5, 1)]
-    );
+    assert_eq!(rt; written(heap, b"", PANEL)?, InRecord(4, 1));
+    assert_eq!(rt; written(heap, &long[0..40], PANEL)?, Accepted);
+    assert_eq!(rt; written(heap, &long, PANEL)?, InRecord(4, 1));
+    assert_eq!(rt; written(heap, b"tab\t", PANEL)?, InRecord(4, 1));
+    for letters in [('3', 'Z', 'W'), ('1', 'é', 'W'), ('1', 'Z', '1')] {
+        let told = written(heap, b"a", Sort { letters, ..PANEL })?;
+        assert_eq!(rt; told, InRecord(5, 1));
+    }
+    Ok(())
 }
 
-#[test]
-fn formats_are_refused(rt: HostRuntime) {
-    let heap = rt.alloc();
-    let told = [
-        written(
-            heap,
-            b"a",
-            Sort {
-                bits: (0, 8),
-                ..PANEL
-            },
-        ),
-        written(
-            heap,
-            b"a",
-            Sort {
-                bits: (8, 0),
-                ..PANEL
-            },
-        ),
-        written(
-            heap,
-            b"a",
-            Sort {
-                bits: (3, 4),
-                ..PANEL
-            },
-        ),
-        written(
-            heap,
-            b"a",
-            Sort {
-                bits: (23, 1),
-                ..PANEL
-            },
-        ),
-        written(
-            heap,
-            b"a",
-            Sort {
-                bits: (24, 1),
-                ..PANEL
-            },
-        ),
-    ];
-    assert_eq!(rt; told, [(6, 1), (6, 1), (6, 1), (0, 0), (6, 1)]);
-}
+// Whole and fraction bits, and what is told.
+const FORMATS: [((u8, u8), Told); 5] = [
+    ((0, 8), InRecord(6, 1)),
+    ((8, 0), InRecord(6, 1)),
+    ((3, 4), InRecord(6, 1)),
+    ((23, 1), Accepted),
+    ((24, 1), InRecord(6, 1)),
+];
 
 #[test]
-fn coefficients_are_refused(rt: HostRuntime) {
+fn formats_are_refused(rt: HostRuntime) -> Result<(), Fail> {
     let heap = rt.alloc();
-    let told = [
-        written(
-            heap,
-            b"a",
-            Sort {
-                counts: (0, 1),
-                ..PANEL
-            },
-        ),
-        written(
-            heap,
-            b"a",
-            Sort {
-                counts: (9, 8),
-                ..PANEL
-            },
-        ),
-        written(
-            heap,
-            b"a",
-            Sort {
-                counts: (10, 8),
-                ..PANEL
-            },
-        ),
-        written(
-            heap,
-            b"a",
-            Sort {
-                counts: (9, 9),
-                ..PANEL
-            },
-        ),
-        written(
-            heap,
-            b"a",
-            Sort {
-                coefficient: -128,
-                ..PANEL
-            },
-        ),
-        written(
-            heap,
-            b"a",
-            Sort {
-                coefficient: 128,
-                ..PANEL
-            },
-        ),
-    ];
-    assert_eq!(rt; told, [(7, 1), (0, 0), (7, 1), (7, 1), (0, 0), (9, 1)]);
+    for (bits, told) in FORMATS {
+        assert_eq!(rt; written(heap, b"a", Sort { bits, ..PANEL })?, told);
+    }
+    Ok(())
+}
+
+// How many feedforward and feedback coefficients, and what is told.
+const COUNTS: [((usize, usize), Told); 4] = [
+    ((0, 1), InRecord(7, 1)),
+    ((9, 8), Accepted),
+    ((10, 8), InRecord(7, 1)),
+    ((9, 9), InRecord(7, 1)),
+];
+
+#[test]
+fn coefficients_are_refused(rt: HostRuntime) -> Result<(), Fail> {
+    let heap = rt.alloc();
+    for (counts, told) in COUNTS {
+        assert_eq!(rt; written(heap, b"a", Sort { counts, ..PANEL })?, told);
+    }
+    for (coefficient, told) in [(-128, Accepted), (128, InRecord(9, 1))] {
+        let sort = Sort {
+            coefficient,
+            ..PANEL
+        };
+        assert_eq!(rt; written(heap, b"a", sort)?, told);
+    }
+    Ok(())
 }
 
 // The last of several records is checked before the first byte is written.
@@ -180,7 +87,7 @@ fn the_last_record_is_refused(rt: HostRuntime) -> Result<(), Fail> {
     let Err(refusal) = write(&twice, &mut bytes) else {
         return Err(Fail::new("written"));
     };
-    assert_eq!(rt; told(refusal), (10, 3));
+    assert_eq!(rt; Told::from(refusal), InRecord(10, 3));
     assert_eq!(rt; bytes == [7; 70], true);
     Ok(())
 }
@@ -193,7 +100,7 @@ fn the_destination_is_too_short(rt: HostRuntime) -> Result<(), Fail> {
     let Err(refusal) = write(&records, &mut bytes[0..24]) else {
         return Err(Fail::new("written"));
     };
-    assert_eq!(rt; told(refusal), (23, 0));
+    assert_eq!(rt; Told::from(refusal), Refused(23));
     assert_eq!(rt; write(&records, &mut bytes), Ok(25));
     Ok(())
 }
@@ -212,7 +119,7 @@ fn the_largest_file(rt: HostRuntime) -> Result<(), Fail> {
     let Err(refusal) = write(largest(heap, 513)?.as_slice(), &mut bytes) else {
         return Err(Fail::new("written"));
     };
-    assert_eq!(rt; told(refusal), (2, 0));
+    assert_eq!(rt; Told::from(refusal), Refused(2));
     Ok(())
 }
 
@@ -238,6 +145,6 @@ fn equal_names_end_at_once(rt: HostRuntime) -> Result<(), Fail> {
     let Err(refusal) = check::check(&bytes) else {
         return Err(Fail::new("accepted"));
     };
-    assert_eq!(rt; told(refusal), (10, 2));
+    assert_eq!(rt; Told::from(refusal), InRecord(10, 2));
     Ok(())
 }
