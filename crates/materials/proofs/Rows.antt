@@ -1,9 +1,11 @@
 -- Decision tables, taken apart and put together. Assumes nothing.
-use Rattle.std.proofs.Common.{◌≡◌, ℕ, Bool, true, false, cond, List, [], ◌∷◌, ◌++◌, Some, None, Option, sym, refl, ap, ◌∙◌, arith}
+use Rattle.std.proofs.Common.{◌≡◌, ℕ, Bool, true, false, cond, List, [], ◌∷◌, ◌++◌, Some, None, Option, Ok, Err, Result, MatchResult, sym, refl, ap, ◌∙◌, arith}
+use Rattle.std.proofs.lemmas.Bool.{false≢true}
+use Rattle.std.specs.Result.{is_ok}
 use Rattle.materials.specs.declared.refusal.RecordFault.{RecordFault}
 use Rattle.materials.specs.declared.refusal.Refusal.{Refusal}
 use Rattle.materials.specs.declared.refusal.Refusal.TheVariants.{InRecord}
-use Rattle.materials.specs.Refusals.{first, or_else}
+use Rattle.materials.specs.Refusals.{first, or_else, Checks}
 use Rattle.materials.specs.Files.{numbered}
 
 pub some_none : {X : Type 0} (x : X) → Some x ≡ None → ⊥
@@ -20,6 +22,15 @@ or_else_none None q h = (refl, h)
 pub numbered_none : (n : ℕ) (o : Option RecordFault) (q : Option Refusal) → numbered n o q ≡ None → (o ≡ None) × (q ≡ None)
 numbered_none n (Some e) q h = absurd (some_none (InRecord n e) h)
 numbered_none n None q h = (refl, h)
+
+-- a fault that is passed on with the number of its record, and a check that passes
+pub with_number : {X : Type 0} (o : Option RecordFault) (n : ℕ) (d : Refusal) (r : Result X RecordFault) → Checks o r → MatchResult r (λ x. ◌≡◌ {A = Result X Refusal} (Err d) (Ok x)) (λ e. d ≡ InRecord n e) → (e : RecordFault) × (o ≡ Some e) × (d ≡ InRecord n e)
+with_number o n d (Ok x) h m = absurd (false≢true (ap is_ok m))
+with_number o n d (Err e) h m = (e, h, m)
+
+pub without_fault : {X : Type 0} (P : X → Type 0) (o : Option RecordFault) (r : Result X RecordFault) → Checks o r → MatchResult r P (λ e. ⊥) → o ≡ None
+without_fault P o (Ok x) h m = h
+without_fault P o (Err e) h m = absurd m
 
 module _ {X : Type 0} where
   -- two tables, one after the other

@@ -35,9 +35,7 @@ fn check_records(directory: &Directory<'_>) -> Result<(), Refusal>
     ensures { Checks (records_fault [] 1 (parts directory.now.file.now)) result }
 {
     for i in 0..directory.count() {
-        if let Err(fault) = check_part(directory, i) {
-            return Err(Refusal::InRecord(i + 1, fault));
-        }
+        check_part(directory, i).map_err(|fault| Refusal::InRecord(i + 1, fault))?;
     }
     Ok(())
 }
