@@ -37,6 +37,10 @@ fn panel(heap: Global, output: usize, feedback: usize) -> Result<Wiring, AllocEr
 
 const NINE: Word = Word { word: 9 };
 
+fn word(word: i32) -> Word {
+    Word { word }
+}
+
 type Panel = Channel<WordKind, TowardZero, Stop>;
 
 // The panel's channel, with so many fraction bits.
@@ -64,12 +68,10 @@ fn settling(count: u64) -> Option<Limits> {
     Some(Limits { range: 64, count })
 }
 
-// The number by which open refuses, or 0.
-fn open_number(fraction: u32, wiring: Wiring, coefficients: Vec<i32>, row: &mut [Word]) -> u32 {
-    match open(fraction, wiring, coefficients, row, None) {
-        Ok(_) => 0,
-        Err(fault) => fault.number(),
-    }
+// The number by which open refuses, where it does.
+fn refused(fraction: u32, wiring: Wiring, coefficients: Vec<i32>, row: &mut [Word]) -> Option<u32> {
+    let fault = open(fraction, wiring, coefficients, row, None).err()?;
+    Some(fault.number())
 }
 
 #[test]
@@ -78,52 +80,39 @@ fn open_refuses_and_leaves_the_row(rt: HostRuntime) -> Result<(), Fail> {
     let mut row = [NINE, NINE];
     let list = [8, -8];
     assert_eq!(rt;
-        open_number(3, panel(heap, 4, 1)?, list.to_vec(heap)?, &mut row),
-        6
+        refused(3, panel(heap, 4, 1)?, list.to_vec(heap)?, &mut row),
+        Some(6)
     );
     let mut bare = panel(heap, 4, 1)?;
     bare.nodes = Vec::new(heap);
-    assert_eq!(rt; open_number(4, bare, list.to_vec(heap)?, &mut row), 12);
+    assert_eq!(rt; refused(4, bare, list.to_vec(heap)?, &mut row), Some(12));
     assert_eq!(rt;
-        open_number(4, panel(heap, 4, 2)?, list.to_vec(heap)?, &mut row),
-        13
+        refused(4, panel(heap, 4, 2)?, list.to_vec(heap)?, &mut row),
+        Some(13)
     );
     assert_eq!(rt;
-        open_number(4, panel(heap, 5, 1)?, list.to_vec(heap)?, &mut row),
-        14
+        refused(4, panel(heap, 5, 1)?, list.to_vec(heap)?, &mut row),
+        Some(14)
     );
     assert_eq!(rt;
-        open_number(4, panel(heap, 4, 1)?, [8].to_vec(heap)?, &mut row),
-        17
+        refused(4, panel(heap, 4, 1)?, [8].to_vec(heap)?, &mut row),
+        Some(17)
     );
     assert_eq!(rt;
-        open_number(4, panel(heap, 4, 1)?, [8, 128].to_vec(heap)?, &mut row),
-        9
+        refused(4, panel(heap, 4, 1)?, [8, 128].to_vec(heap)?, &mut row),
+        Some(9)
     );
     assert_eq!(rt;
-        open_number(4, panel(heap, 4, 1)?, list.to_vec(heap)?, &mut []),
-        15
+        refused(4, panel(heap, 4, 1)?, list.to_vec(heap)?, &mut []),
+        Some(15)
     );
-    assert_eq!(rt; (row[0].word, row[1].word), (9, 9));
+    assert_eq!(rt; row, [NINE, NINE]);
     assert_eq!(rt;
-        open_number(4, panel(heap, 4, 1)?, list.to_vec(heap)?, &mut row),
-        0
+        refused(4, panel(heap, 4, 1)?, list.to_vec(heap)?, &mut row),
+        None
     );
-    assert_eq!(rt; (row[0].word, row[1].word), (0, 9));
+    assert_eq!(rt; row, [word(0), NINE]);
     Ok(())
-}
-
-// The word that a feed answers, or its refusal.
-fn feed(
-    channel: &mut Panel,
-    row: &mut [Word],
-    working: &mut [Word],
-    sample: i32,
-) -> Result<i32, CallFault> {
-    match channel.feed(row, working, sample) {
-        Ok(output) => Ok(output.word),
-        Err(fault) => Err(fault),
-    }
 }
 
 #[test]
@@ -138,32 +127,32 @@ fn feed_refuses_and_leaves_the_registers(rt: HostRuntime) -> Result<(), Fail> {
         &mut row,
         settling(6),
     )?;
-    assert_eq!(rt; feed(&mut channel, &mut row, &mut working, 64), Ok(32));
+    assert_eq!(rt; channel.feed(&mut row, &mut working, 64), Ok(word(32)));
     assert_eq!(rt;
-        feed(&mut channel, &mut [], &mut working, 128),
+        channel.feed(&mut [], &mut working, 128),
         Err(CallFault::RegisterRow)
     );
     assert_eq!(rt;
-        feed(&mut channel, &mut row, &mut [NINE; 4], 128),
+        channel.feed(&mut row, &mut [NINE; 4], 128),
         Err(CallFault::WorkingRow)
     );
     assert_eq!(rt;
-        feed(&mut channel, &mut row, &mut working, 128),
+        channel.feed(&mut row, &mut working, 128),
         Err(CallFault::Sample)
     );
     assert_eq!(rt;
-        (working[3].word, working[4].word, working[5].word),
-        (0, 32, 9)
+        [working[3], working[4], working[5]],
+        [word(0), word(32), NINE]
     );
     assert_eq!(rt;
-        feed(&mut channel, &mut row, &mut working, 0),
+        channel.feed(&mut row, &mut working, 0),
         Err(CallFault::Node(3, Refusal::Overflow))
     );
     assert_eq!(rt;
-        (working[0].word, working[4].word, working[5].word),
-        (0, 0, 9)
+        [working[0], working[4], working[5]],
+        [word(0), word(0), NINE]
     );
-    assert_eq!(rt; (row[0].word, row[1].word), (32, 9));
+    assert_eq!(rt; row, [word(32), NINE]);
     assert_eq!(rt; channel.watch(), Some(State::Sounding));
     Ok(())
 }
@@ -180,14 +169,14 @@ fn swap_keeps_the_registers_and_lapses(rt: HostRuntime) -> Result<(), Fail> {
         &mut row,
         settling(6),
     )?;
-    assert_eq!(rt; feed(&mut channel, &mut row, &mut working, 64), Ok(32));
+    assert_eq!(rt; channel.feed(&mut row, &mut working, 64), Ok(word(32)));
     assert_eq!(rt; channel.swap(&[8]), Err(CallFault::OtherLength));
     assert_eq!(rt; channel.swap(&[8, -129]), Err(CallFault::Coefficient(1)));
     assert_eq!(rt; channel.watch(), Some(State::Sounding));
     assert_eq!(rt; channel.swap(&[8, -8]), Ok(()));
-    assert_eq!(rt; (row[0].word, channel.watch()), (32, Some(State::Lapsed)));
+    assert_eq!(rt; (row[0], channel.watch()), (word(32), Some(State::Lapsed)));
     assert_eq!(rt; channel.hush(&mut row), Ok(()));
-    assert_eq!(rt; (row[0].word, channel.watch()), (0, Some(State::Lapsed)));
+    assert_eq!(rt; (row[0], channel.watch()), (word(0), Some(State::Lapsed)));
     Ok(())
 }
 
@@ -203,12 +192,12 @@ fn hush_zeroes_and_settles(rt: HostRuntime) -> Result<(), Fail> {
         &mut row,
         settling(6),
     )?;
-    assert_eq!(rt; feed(&mut channel, &mut row, &mut working, -65), Ok(-32));
+    assert_eq!(rt; channel.feed(&mut row, &mut working, -65), Ok(word(-32)));
     assert_eq!(rt; channel.watch(), Some(State::Spoilt));
     assert_eq!(rt; channel.hush(&mut []), Err(CallFault::RegisterRow));
-    assert_eq!(rt; (row[0].word, channel.watch()), (-32, Some(State::Spoilt)));
+    assert_eq!(rt; (row[0], channel.watch()), (word(-32), Some(State::Spoilt)));
     assert_eq!(rt; channel.hush(&mut row), Ok(()));
-    assert_eq!(rt; (row[0].word, row[1].word), (0, 9));
+    assert_eq!(rt; row, [word(0), NINE]);
     assert_eq!(rt; channel.watch(), Some(State::Settled));
     Ok(())
 }
@@ -225,7 +214,7 @@ fn no_zeros_or_one_to_settle(rt: HostRuntime) -> Result<(), Fail> {
         &mut row,
         settling(0),
     )?;
-    assert_eq!(rt; feed(&mut channel, &mut row, &mut working, 5), Ok(2));
+    assert_eq!(rt; channel.feed(&mut row, &mut working, 5), Ok(word(2)));
     assert_eq!(rt; channel.watch(), Some(State::Settled));
     let mut channel = open(
         4,
@@ -234,12 +223,12 @@ fn no_zeros_or_one_to_settle(rt: HostRuntime) -> Result<(), Fail> {
         &mut row,
         settling(1),
     )?;
-    assert_eq!(rt; feed(&mut channel, &mut row, &mut working, 5), Ok(2));
+    assert_eq!(rt; channel.feed(&mut row, &mut working, 5), Ok(word(2)));
     assert_eq!(rt; channel.watch(), Some(State::Sounding));
-    assert_eq!(rt; feed(&mut channel, &mut row, &mut working, 0), Ok(1));
+    assert_eq!(rt; channel.feed(&mut row, &mut working, 0), Ok(word(1)));
     assert_eq!(rt; channel.watch(), Some(State::Settled));
     let mut channel = open(4, panel(heap, 4, 1)?, [8, -8].to_vec(heap)?, &mut row, None)?;
-    assert_eq!(rt; feed(&mut channel, &mut row, &mut working, 5), Ok(2));
+    assert_eq!(rt; channel.feed(&mut row, &mut working, 5), Ok(word(2)));
     assert_eq!(rt; channel.watch(), None);
     Ok(())
 }
