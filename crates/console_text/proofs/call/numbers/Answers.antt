@@ -1,8 +1,7 @@
-use Rattle.std.proofs.Common.{[], map, vec_items, sym, subst, rules}
-use Rattle.std.proofs.lemmas.List.{take_all}
+use Rattle.std.proofs.Common.{[], vec_items, sym, subst, rules}
 use Rattle.wiring.specs.Lists.{Each₂, none₂}
 use Rattle.console_text.specs.Numbers.{Writes}
-use Rattle.console_text.proofs.Reading.{bytes, numbers_more, one_unwritten}
+use Rattle.console_text.proofs.Reading.{numbers_more, one_unwritten}
 use Rattle.console_text.proofs.call.numbers.Goals as goal
 
 pub loop-text-init : goal.loop-text-init
@@ -14,6 +13,3 @@ loop-text-preserved c =
 
 pub returns-in_default : goal.returns-in_default
 returns-in_default c = λ zs. one_unwritten c.args.texts.now c.loop-text.text-index _ zs c.loop-text-test.true c.in_default.ensures
-
-pub returns : goal.returns
-returns c = subst (λ ts. Each₂ Writes (map bytes ts) (vec_items c.loop-text.all)) (take_all c.loop-text.text-index c.args.texts.now c.loop-text-test.false) c.loop-text.invariant

@@ -1,5 +1,4 @@
 use Rattle.std.proofs.Common.{[], map, take, vec_items, sym, ap, ◌∙◌, subst}
-use Rattle.std.proofs.lemmas.List.{take_all}
 use Rattle.console_text.specs.Calls.{Asks, Reads, no_lines}
 use Rattle.console_text.proofs.Reading.{bytes, reads_more, unread_more}
 use Rattle.console_text.proofs.script.read_script.Goals as goal
@@ -24,6 +23,3 @@ loop-line-preserved g c =
           (subst (Asks r n _) w.in-None.is c.in_ok-call.ensures)
           (ap vec_items w.marks-is ∙ w.in_ok-push-in-None.ensures.items)
     ]
-
-pub returns : goal.returns
-returns g c = subst (λ ts. Reads c.args.rows.now.registers c.args.rows.now.nodes (map bytes ts) (vec_items c.loop-line.marks) (vec_items c.loop-line.calls)) (take_all c.loop-line.line-index c.args.lines.now c.loop-line-test.false) c.loop-line.invariant
