@@ -53,7 +53,7 @@ pub(crate) fn read_call<V: Copy>(
         let Some(sample) = number(rest) else {
             return Ok(None);
         };
-        let working = rows.working_row(heap)?;
+        let working = rows.zeros(heap, rows.nodes)?;
         return Ok(Some(Call::Feed {
             registers,
             working,

@@ -12,21 +12,12 @@ pub(crate) struct Rows<V> {
 }
 
 impl<V: Copy> Rows<V> {
-    /// A row with a zero for each register.
-    pub(crate) fn register_row(&self, heap: Global) -> Result<Vec<V>, AllocError>
-        ensures { IfOk result (λ v. v.items ≡ replicate self.now.registers self.now.zero) }
+    /// So many zeros.
+    pub(crate) fn zeros(&self, heap: Global, count: usize) -> Result<Vec<V>, AllocError>
+        ensures { IfOk result (λ v. v.items ≡ replicate count self.now.zero) }
     {
         let mut row = Vec::new(heap);
-        row.resize(self.registers, self.zero)?;
-        Ok(row)
-    }
-
-    /// A row with a zero for each node.
-    pub(crate) fn working_row(&self, heap: Global) -> Result<Vec<V>, AllocError>
-        ensures { IfOk result (λ v. v.items ≡ replicate self.now.nodes self.now.zero) }
-    {
-        let mut row = Vec::new(heap);
-        row.resize(self.nodes, self.zero)?;
+        row.resize(count, self.zero)?;
         Ok(row)
     }
 }

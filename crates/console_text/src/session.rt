@@ -42,7 +42,7 @@ fn replayed<K: Kind + Drop>(
     requires { rows.now.registers ≡ length (graph_of filter.wiring).sources }
     ensures { IfOk result (λ log. LoggedCalls K.Kind.model kind setting.now (graph_of filter.wiring) filter.coefficients.items limits calls.now log.items) }
 {
-    let mut row = rows.register_row(heap)?;
+    let mut row = rows.zeros(heap, rows.registers)?;
     Ok(replay(heap, kind, setting, filter, limits, &mut row, calls)?)
 }
 
