@@ -67,15 +67,7 @@ impl Case for Run {
         let zero = value_of(&kind, setting, 0);
         let calls = read_calls(heap, zero.as_ref(), calls)?;
         let mut row = row_of(heap, zero.as_ref(), read_length(row)?)?;
-        match replay(
-            heap,
-            kind,
-            setting,
-            filter,
-            limits,
-            &mut row,
-            &calls,
-        ) {
+        match replay(heap, kind, setting, filter, limits, &mut row, &calls) {
             Ok(log) => print_log(rt, &log),
             Err(ReplayFault::Open(fault)) => {
                 println!(rt; "refused {}", fault.number())?;
