@@ -18,7 +18,7 @@ use Rattle.sheet.specs.declared.figures.SheetFault.TheVariants.{Format as OfForm
 use Rattle.sheet.specs.Calls.{Rows, rows, sheet_check, SheetAnswer}
 use Rattle.materials.specs.Layout.{Material}
 use Rattle.materials.specs.Letters.{form_of, rounding_of, overflow_of}
-use Rattle.materials.specs.Records.{material_fault}
+use Rattle.materials.specs.Records.{material_fault, setting_in}
 use Rattle.materials.specs.declared.letters.Choices.{Choices}
 use Rattle.materials.proofs.Rows.{some_none}
 use Rattle.schedule_text.specs.declared.outcome.Outcome.{Outcome}
@@ -34,10 +34,7 @@ pub tells_some : (m : Material) (o : Option Outcome) → Tells m o → IsSome o
 tells_some m (Some o) h = refl
 tells_some m None h = absurd h
 
--- the setting that is handed to the sheet's call, and its rows
-abbrev pub setting_of : Choices → ℕ → ℕ → Setting RoundingChoice OverflowChoice
-setting_of ch w l = record { whole = w; fraction = l; rounding = ch.rounding; overflow = ch.overflow }
-
+-- the rows that are handed to the sheet's call
 abbrev pub zero_rows : Rows
 zero_rows = rows (replicate 16 0) (replicate 16 0) (replicate 16 0)
 
@@ -49,7 +46,7 @@ module _ (m : Material) (good : material_fault m ≡ None) (ch : Choices) (f : F
   point = record { format = f; rounding = ch.rounding; overflow = ch.overflow }
 
   abbrev setting : Setting RoundingChoice OverflowChoice
-  setting = setting_of ch m.whole m.fraction
+  setting = setting_in m ch
 
   abbrev filtering : Filtering m
   filtering = record {
@@ -96,15 +93,15 @@ module _ (m : Material) (good : material_fault m ≡ None) (ch : Choices) (f : F
   told_of st g cs x a est eg ecs ex h = told a (transport (λ i. SheetAnswer rounding_rule overflow_rule (est i) (eg i) (ecs i) (ex i) before after a) h)
 
 -- the same, from what the calls before the sheet's ensure: whatever the answer tells is so
-pub told_call : (m : Material) → material_fault m ≡ None → (ch : Choices) (f : Format) (w l : ℕ) (x : ℤ) (g : Graph) (cs : List ℤ) (after : Rows) (a : Result Figures SheetFault) (o : Option Outcome)
+pub told_call : (m : Material) → material_fault m ≡ None → (ch : Choices) (f : Format) (st : Setting RoundingChoice OverflowChoice) (x : ℤ) (g : Graph) (cs : List ℤ) (after : Rows) (a : Result Figures SheetFault) (o : Option Outcome)
     → form_of m.form ≡ Some ch.form → rounding_of m.rounding ≡ Some ch.rounding → overflow_of m.overflow ≡ Some ch.overflow
-    → f.whole ≡ m.whole → f.fraction ≡ m.fraction → w ≡ f.whole → l ≡ f.fraction → x ≡ pos (range_in (width f)) → SFits w32 x
+    → f.whole ≡ m.whole → f.fraction ≡ m.fraction → st ≡ setting_in m ch → x ≡ pos (range_in (width f)) → SFits w32 x
     → g ≡ wiring_in ch.form m → cs ≡ coefficients_of m
-    → SheetAnswer rounding_rule overflow_rule (setting_of ch w l) g cs (to_z w32 (of_z w32 x)) zero_rows after a
+    → SheetAnswer rounding_rule overflow_rule st g cs (to_z w32 (of_z w32 x)) zero_rows after a
     → o ≡ told_by a → Tells m o
-told_call m good ch f w l x g cs after a o form_is rounding_is overflow_is whole_is fraction-is ew el ex fits eg ecs h eo =
+told_call m good ch f st x g cs after a o form_is rounding_is overflow_is whole_is fraction-is est ex fits eg ecs h eo =
     let rx : to_z w32 (of_z w32 x) ≡ pos (range_of m) = to_z-of_z w32 x fits ∙ (ex ∙ (λ i. pos (range_in (whole_is i + fraction-is i)))) in
     let room : 16 ≤ length zero_rows.peaks = omega (arith, length-replicate {A = ℕ} 16 0) in
     subst (Tells m) (sym eo)
-    (told_of m good ch f form_is rounding_is overflow_is whole_is fraction-is zero_rows after room room room (setting_of ch w l) g cs (to_z w32 (of_z w32 x)) a
-    (λ i. setting_of ch ((ew ∙ whole_is) i) ((el ∙ fraction-is) i)) eg ecs rx h)
+    (told_of m good ch f form_is rounding_is overflow_is whole_is fraction-is zero_rows after room room room st g cs (to_z w32 (of_z w32 x)) a
+    est eg ecs rx h)

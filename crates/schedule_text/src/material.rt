@@ -5,7 +5,6 @@ ghost use Rattle.materials.specs.Lists.{record_fault};
 ghost use Rattle.schedule_text.specs.Outcomes.{OutcomeOf, FilterOf, told_by};
 
 use crate::outcome::Outcome;
-use arithmetic::setting::Setting;
 use forms::form::{Form, FormFault};
 use materials::record::Record;
 use sheet::figures::{Figures, SheetFault};
@@ -50,12 +49,7 @@ pub(crate) fn outcome(heap: Global, item: &Record) -> Result<Outcome, AllocError
     let choices = item.choices().unwrap();
     let format = item.format().unwrap();
     let filter = filter(heap, choices.form, item)?;
-    let setting = Setting {
-        whole: format.whole(),
-        fraction: format.fraction(),
-        rounding: choices.rounding,
-        overflow: choices.overflow,
-    };
+    let setting = item.setting(choices);
     let mut peaks = [0u32; MAX_REGISTERS];
     let mut ceilings = [0u64; MAX_REGISTERS];
     let mut band = [0u32; MAX_REGISTERS];
