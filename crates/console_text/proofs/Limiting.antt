@@ -22,11 +22,11 @@ use Rattle.sheet.specs.declared.figures.Figures.{Figures}
 use Rattle.sheet.specs.declared.figures.SheetFault.{SheetFault}
 use Rattle.sheet.specs.declared.figures.SheetFault.TheVariants.{Format, Program, PeaksRow, CeilingsRow, BandRow, Range, Node}
 use Rattle.sheet.specs.Sheets.{Sheet, Granted}
-use Rattle.sheet.specs.Calls.{Rows, in_range, call_fault, sheet_check, SheetAnswer}
+use Rattle.sheet.specs.Calls.{Rows, zero_rows, in_range, call_fault, sheet_check, SheetAnswer}
 use Rattle.channel.specs.Opening.{open_check}
 use Rattle.channel.specs.declared.state.Limits.{Limits}
 use Rattle.materials.proofs.Rows.{some_none}
-use Rattle.console_text.specs.Watching.{WatchLimits, zero_rows, SheetLimits}
+use Rattle.console_text.specs.Watching.{WatchLimits, SheetLimits}
 use Rattle.console_text.specs.Sessions.{range_in}
 
 module _ (st : Setting RoundingChoice OverflowChoice) (g : Graph) (cs : List ℤ) (x y : ℤ) (same : x ≡ y) (after : Rows) where

@@ -1,5 +1,5 @@
 -- The watch that a record asks for.
-use Rattle.std.specs.Prelude.{◌≡◌, ℕ, List, replicate, ℤ, Some, None, Ok, Err, Option, unsigned_abs}
+use Rattle.std.specs.Prelude.{◌≡◌, ℕ, List, ℤ, Some, None, Ok, Err, Option, unsigned_abs}
 use Rattle.arithmetic.specs.Choices.{rounding_rule, overflow_rule}
 use Rattle.arithmetic.specs.Settings.{meaning, SettingAnswer}
 use Rattle.arithmetic.specs.declared.choice.RoundingChoice.{RoundingChoice}
@@ -9,7 +9,7 @@ use Rattle.arithmetic.specs.declared.setting.FixedPoint.{FixedPoint}
 use Rattle.wiring.specs.Graphs.{Graph}
 use Rattle.sheet.specs.declared.figures.SheetFault.{SheetFault}
 use Rattle.sheet.specs.Sheets.{Sheet, Granted}
-use Rattle.sheet.specs.Calls.{Rows, rows, SheetAnswer}
+use Rattle.sheet.specs.Calls.{Rows, zero_rows, SheetAnswer}
 use Rattle.channel.specs.declared.state.Limits.{Limits}
 use Rattle.channel.specs.Theorem.{limits_of}
 
@@ -19,10 +19,6 @@ WatchLimits st g cs X (Some l) = (p : FixedPoint RoundingChoice OverflowChoice) 
     → (t : Sheet) × Granted (meaning rounding_rule overflow_rule p) g cs X t × (l ≡ limits_of X t)
 WatchLimits st g cs X None = (p : FixedPoint RoundingChoice OverflowChoice) → SettingAnswer st (Ok p)
     → (t : Sheet) → Granted (meaning rounding_rule overflow_rule p) g cs X t → ⊥
-
--- rows of 16 zeros, room enough for the registers of every wiring
-abbrev pub zero_rows : Rows
-zero_rows = rows (replicate 16 0) (replicate 16 0) (replicate 16 0)
 
 -- the same limits, by what the call for the sheet answers: without limits, it is refused
 abbrev pub SheetLimits : Setting RoundingChoice OverflowChoice → Graph → List ℤ → ℤ → Option Limits → Type 0

@@ -11,10 +11,9 @@ use arithmetic::setting::Setting;
 use channel::state::Limits;
 use forms::form::Form;
 use materials::record::Record;
-use sheet::sheet::sheet;
+use sheet::sheet::figures;
 use std::alloc::Global;
 use wiring::graph::Filter;
-use wiring::limits::MAX_REGISTERS;
 
 /// A setting whose rules are those that a record's letters stand for.
 pub(crate) type Chosen = Setting<RoundingChoice, OverflowChoice>;
@@ -30,10 +29,7 @@ pub(crate) fn filter_of(heap: Global, item: &Record, form: Form) -> Result<Filte
 fn sheet_limits(setting: &Chosen, filter: Filter, range: i32) -> Option<Limits>
     ensures { SheetLimits setting.now (graph_of filter.wiring) filter.coefficients.items range result }
 {
-    let mut peaks = [0u32; MAX_REGISTERS];
-    let mut ceilings = [0u64; MAX_REGISTERS];
-    let mut band = [0u32; MAX_REGISTERS];
-    let figures = sheet(setting, filter, range, &mut peaks, &mut ceilings, &mut band).ok()?;
+    let figures = figures(setting, filter, range).ok()?;
     Some(Limits {
         range: range.unsigned_abs(),
         count: figures.count,

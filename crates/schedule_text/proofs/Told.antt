@@ -1,5 +1,5 @@
 -- What a sheet's answer tells of a good material. Assumes nothing.
-use Rattle.std.proofs.Common.{◌≡◌, ℕ, ◌+◌, ◌≤◌, List, length, replicate, ℤ, pos, Some, None, Ok, Err, Option, Result, IsSome, sym, refl, ◌∙◌, subst, arith, w32, SFits, to_z, of_z}
+use Rattle.std.proofs.Common.{◌≡◌, ℕ, ◌+◌, ◌≤◌, List, length, ℤ, pos, Some, None, Ok, Err, Option, Result, IsSome, sym, refl, ◌∙◌, subst, arith, w32, SFits, to_z, of_z}
 use mathlib.Core.Path.{transport}
 use Rattle.std.proofs.lemmas.List.{length-replicate}
 use Rattle.std.proofs.lemmas.Int.{to_z-of_z}
@@ -15,7 +15,7 @@ use Rattle.wiring.specs.Graphs.{Graph}
 use Rattle.sheet.specs.declared.figures.Figures.{Figures}
 use Rattle.sheet.specs.declared.figures.SheetFault.{SheetFault}
 use Rattle.sheet.specs.declared.figures.SheetFault.TheVariants.{Format as OfFormat, Program, PeaksRow, CeilingsRow, BandRow, Range, Node}
-use Rattle.sheet.specs.Calls.{Rows, rows, sheet_check, SheetAnswer}
+use Rattle.sheet.specs.Calls.{Rows, zero_rows, sheet_check, SheetAnswer}
 use Rattle.materials.specs.Layout.{Material}
 use Rattle.materials.specs.Letters.{form_of, rounding_of, overflow_of}
 use Rattle.materials.specs.Records.{material_fault, setting_in}
@@ -33,10 +33,6 @@ Tells m None = ⊥
 pub tells_some : (m : Material) (o : Option Outcome) → Tells m o → IsSome o
 tells_some m (Some o) h = refl
 tells_some m None h = absurd h
-
--- the rows that are handed to the sheet's call
-abbrev pub zero_rows : Rows
-zero_rows = rows (replicate 16 0) (replicate 16 0) (replicate 16 0)
 
 module _ (m : Material) (good : material_fault m ≡ None) (ch : Choices) (f : Format)
     (form_is : form_of m.form ≡ Some ch.form) (rounding_is : rounding_of m.rounding ≡ Some ch.rounding) (overflow_is : overflow_of m.overflow ≡ Some ch.overflow)

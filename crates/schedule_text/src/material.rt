@@ -8,10 +8,9 @@ use crate::outcome::Outcome;
 use forms::form::{Form, FormFault};
 use materials::record::Record;
 use sheet::figures::{Figures, SheetFault};
-use sheet::sheet::sheet;
+use sheet::sheet::figures;
 use std::alloc::{AllocError, Global};
 use wiring::graph::Filter;
-use wiring::limits::MAX_REGISTERS;
 
 // The filter of a good record in a form.
 fn filter(heap: Global, form: Form, item: &Record) -> Result<Filter, AllocError>
@@ -50,16 +49,6 @@ pub(crate) fn outcome(heap: Global, item: &Record) -> Result<Outcome, AllocError
     let format = item.format().unwrap();
     let filter = filter(heap, choices.form, item)?;
     let setting = item.setting(choices);
-    let mut peaks = [0u32; MAX_REGISTERS];
-    let mut ceilings = [0u64; MAX_REGISTERS];
-    let mut band = [0u32; MAX_REGISTERS];
-    let answer = sheet(
-        &setting,
-        filter,
-        format.width().quarter(),
-        &mut peaks,
-        &mut ceilings,
-        &mut band,
-    );
+    let answer = figures(&setting, filter, format.width().quarter());
     Ok(told(answer).unwrap())
 }

@@ -38,6 +38,10 @@ pub record Rows : Type 0 where
 abbrev pub rows : List ℕ → List ℕ → List ℕ → Rows
 rows p c b = record { peaks = p; ceilings = c; band = b }
 
+-- rows of 16 zeros, room enough for the registers of every wiring
+abbrev pub zero_rows : Rows
+zero_rows = rows (replicate 16 0) (replicate 16 0) (replicate 16 0)
+
 -- a range from 0 to the largest word of w bits
 abbrev pub in_range : ℕ → ℤ → Bool
 in_range w x = int_le (pos 0) x && int_lt x (pos (half w))

@@ -17,12 +17,10 @@ impl<R: Rounding, O: Overflow> Rounds<R, O> {
     pub(crate) fn round(&self, rows: &mut BoundRows, sample: i32) -> Result<(), SheetFault>
         ensures { RoundAnswer R.Rounding.rule O.Overflow.rule self.now sample rows.old result rows.new }
     {
-        match self.program.work(
-            &self.values,
-            &rows.registers,
-            &mut rows.working,
-            sample,
-        ) {
+        match self
+            .program
+            .work(&self.values, &rows.registers, &mut rows.working, sample)
+        {
             Ok(()) => Ok(()),
             Err(RunFault::Node(k, refusal)) => Err(SheetFault::Node(k, refusal)),
             Err(RunFault::Row(_)) => unreachable(),

@@ -4,7 +4,7 @@ ghost use Rattle.wiring.specs.Graphs.{graph_of};
 ghost use Rattle.wiring.specs.Made.{register_count};
 ghost use Rattle.wiring.specs.Runs.{or_fault};
 ghost use Rattle.sheet.specs.Searching.{rounds_graph, rounds_list, rounds_meaning};
-ghost use Rattle.sheet.specs.Calls.{rows, call_fault, Verdict, SheetAnswer};
+ghost use Rattle.sheet.specs.Calls.{Rows, rows, zero_rows, call_fault, Verdict, SheetAnswer};
 
 use crate::figures::{Figures, SheetFault};
 use crate::rounds::Rounds;
@@ -16,6 +16,7 @@ use arithmetic::setting::Setting;
 use kinds::bounds::BoundKind;
 use kinds::values::Values;
 use wiring::graph::Filter;
+use wiring::limits::MAX_REGISTERS;
 use wiring::program::Program;
 
 // A row too short for so many registers, or a range that is no word from 0 up.
@@ -108,4 +109,18 @@ pub fn sheet<R: Rounding, O: Overflow>(
         program,
     };
     make(&rounds, range, peaks, ceilings, band)
+}
+
+// The same, over rows of its own, where the figures alone are wanted.
+pub fn figures<R: Rounding, O: Overflow>(
+    setting: &Setting<R, O>,
+    filter: Filter,
+    range: i32,
+) -> Result<Figures, SheetFault>
+    ensures { (after : Rows) × SheetAnswer R.Rounding.rule O.Overflow.rule setting.now (graph_of filter.wiring) filter.coefficients.items range zero_rows after result }
+{
+    let mut peaks = [0; MAX_REGISTERS];
+    let mut ceilings = [0; MAX_REGISTERS];
+    let mut band = [0; MAX_REGISTERS];
+    sheet(setting, filter, range, &mut peaks, &mut ceilings, &mut band)
 }

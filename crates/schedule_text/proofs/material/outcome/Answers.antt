@@ -1,6 +1,5 @@
 use Rattle.std.proofs.Common.{pos, vec_items, ap, ◌∙◌, subst, rules}
 use Rattle.wiring.specs.Graphs.{graph_of}
-use Rattle.sheet.specs.Calls.{rows}
 use Rattle.materials.specs.Layout.{meaning}
 use Rattle.materials.specs.Records.{ChoicesFound, FormatFound}
 use Rattle.schedule_text.specs.Outcomes.{range_in}
@@ -16,9 +15,8 @@ tells c =
     let bits = subst (FormatFound m.whole m.fraction) c.unwrap-format.ensures c.format.ensures in
     let made = c.in_ok-filter.ensures in
     let filter = c.in_ok-filter.filter in
-    let after = rows c.sheet-answer.new.peaks c.sheet-answer.new.ceilings c.sheet-answer.new.band in
-    told_call m c.requires c.unwrap-choices.result c.unwrap-format.result c.setting-setting.result c.quarter.result (graph_of filter.wiring) (vec_items filter.coefficients) after c.sheet-answer.result _
-    letters.1 letters.2 letters.3 bits.1 bits.2 c.setting-setting.ensures (c.quarter.ensures ∙ ap (λ w. pos (range_in w)) c.width.ensures) (search rules) made.0 made.1 c.sheet-answer.ensures c.told.ensures
+    told_call m c.requires c.unwrap-choices.result c.unwrap-format.result c.setting-setting.result c.quarter.result (graph_of filter.wiring) (vec_items filter.coefficients) c.figures-answer.ensures.0 c.figures-answer.result _
+    letters.1 letters.2 letters.3 bits.1 bits.2 c.setting-setting.ensures (c.quarter.ensures ∙ ap (λ w. pos (range_in w)) c.width.ensures) (search rules) made.0 made.1 c.figures-answer.ensures.1 c.told.ensures
 
 pub unwrap-requires : goal.unwrap-requires
 unwrap-requires c = tells_some (meaning c.args.item.now) c.told.result (tells c)
