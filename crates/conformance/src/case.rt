@@ -27,6 +27,7 @@ pub fn work_over<C: Case>(
     setting: &Chosen,
     fields: &[&str],
 ) -> Result<(), Fault> {
+    // A closure cannot be generic over the kind, so a trait carries the step.
     match name {
         "word" => C::work(rt, WordKind, setting, fields),
         "enclosed" => C::work(rt, EnclosedKind, setting, fields),

@@ -146,7 +146,7 @@ impl fmt::Display for Refused {
     }
 }
 
-/// What the watch says, where there is one.
+/// What the watch says, where there is one. Apart from the console's: a space would end the field here, so a dot stands before the count.
 #[derive(Drop)]
 pub struct Watching(pub Option<State>);
 

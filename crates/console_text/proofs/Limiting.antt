@@ -1,28 +1,27 @@
 -- The limits of a watch, from the sheet's answer.
-use Rattle.std.proofs.Common.{◌≡◌, ℕ, ◌+◌, ◌-◌, ◌^◌, ◌≤◌, true, false, leb, List, length, replicate, ℤ, pos, nat_abs, Some, None, Ok, Err, Option, Result, is_ok, sym, refl, ap, ◌∙◌, subst, arith}
+use Rattle.std.proofs.Common.{◌≡◌, ℕ, ◌+◌, ◌≤◌, true, false, leb, List, length, replicate, ℤ, pos, nat_abs, Some, None, Ok, Err, Option, Result, is_ok, sym, refl, ap, ◌∙◌, subst, arith}
 use mathlib.Core.Path.{transport}
 use Rattle.std.specs.Result.{result_ok}
-use Rattle.std.proofs.lemmas.Nat.{pow_below}
 use Rattle.std.proofs.lemmas.List.{length-replicate}
-use Rattle.std.proofs.lemmas.Bool.{and_from, le-leb, lt-ltb, leb-true, both_ways}
+use Rattle.std.proofs.lemmas.Bool.{le-leb, both_ways}
 use Rattle.std.specs.Option.{option_map, unwrap_or}
 use Rattle.arithmetic.specs.Choices.{rounding_rule, overflow_rule}
 use Rattle.arithmetic.specs.Settings.{meaning, SettingAnswer}
-use Rattle.arithmetic.specs.Words.{half}
 use Rattle.arithmetic.specs.declared.choice.RoundingChoice.{RoundingChoice}
 use Rattle.arithmetic.specs.declared.choice.OverflowChoice.{OverflowChoice}
 use Rattle.arithmetic.specs.declared.setting.Setting.{Setting}
 use Rattle.arithmetic.specs.declared.setting.FixedPoint.{FixedPoint}
 use Rattle.wiring.specs.Graphs.{Graph}
-use Rattle.wiring.proofs.Soundness.{first_none, unless_none}
-use Rattle.wiring.specs.Checks.{unless, first, wiring_fault, counts_fault, naming_fault}
+use Rattle.wiring.proofs.Soundness.{first_none, mapped_none, few_registers}
+use Rattle.wiring.specs.Checks.{unless, first, wiring_fault}
 use Rattle.wiring.specs.Programs.{list_fault}
 use Rattle.wiring.specs.declared.faults.ProgramFault.TheVariants.{Wiring}
 use Rattle.sheet.specs.declared.figures.Figures.{Figures}
 use Rattle.sheet.specs.declared.figures.SheetFault.{SheetFault}
 use Rattle.sheet.specs.declared.figures.SheetFault.TheVariants.{Format, Program, PeaksRow, CeilingsRow, BandRow, Range, Node}
 use Rattle.sheet.specs.Sheets.{Sheet, Granted}
-use Rattle.sheet.specs.Calls.{Rows, zero_rows, in_range, call_fault, sheet_check, SheetAnswer}
+use Rattle.sheet.proofs.Decisions.{range_passes}
+use Rattle.sheet.specs.Calls.{Rows, zero_rows, call_fault, sheet_check, SheetAnswer}
 use Rattle.channel.specs.Opening.{open_check}
 use Rattle.channel.specs.declared.state.Limits.{Limits}
 use Rattle.materials.proofs.Rows.{some_none}
@@ -46,22 +45,6 @@ module _ (st : Setting RoundingChoice OverflowChoice) (g : Graph) (cs : List ℤ
 -- the same limits for an equal wiring, list and range
 pub limits_same : (st : Setting RoundingChoice OverflowChoice) (g g' : Graph) (cs cs' : List ℤ) (x x' : ℤ) (o : Option Limits) → g ≡ g' → cs ≡ cs' → x ≡ x' → SheetLimits st g cs x o → SheetLimits st g' cs' x' o
 limits_same st g g' cs cs' x x' o eg ec ex h = transport (λ i. SheetLimits st (eg i) (ec i) (ex i) o) h
-
-mapped_none : {F G : Type 0} (f : F → G) (o : Option F) → option_map f o ≡ None → o ≡ None
-mapped_none f (Some x) h = absurd (some_none (f x) h)
-mapped_none f None h = refl
-
--- a wiring that passes its check has at most 16 registers
-few_registers : (g : Graph) → wiring_fault g ≡ None → length g.sources ≤ 16
-few_registers g h =
-    let a = first_none (counts_fault g) (naming_fault g) h in
-    let b = first_none _ _ a.0 in
-    let d = first_none _ _ b.1 in
-    leb-true (length g.sources) 16 (unless_none _ _ d.0)
-
--- a range of 2^(w-2) is in the limits for words of w bits
-range_passes : (w : ℕ) → 8 ≤ w → in_range w (pos (range_in w)) ≡ true
-range_passes w h = and_from _ _ (le-leb 0 (2 ^ (w - 2)) (omega arith)) (lt-ltb (2 ^ (w - 2)) (half w) (pow_below (w - 2) (w - 1) (omega arith)))
 
 module _ (st : Setting RoundingChoice OverflowChoice) (g : Graph) (cs : List ℤ) (row : ℕ) (opens : open_check st.whole st.fraction g cs row ≡ None) (p : FixedPoint RoundingChoice OverflowChoice) (set : SettingAnswer st (Ok p)) where
   abbrev w : ℕ

@@ -1,7 +1,8 @@
 -- Lists of numbers and of calls, one element more.
 use Rattle.std.proofs.Common.{◌≡◌, ℕ, zero, suc, ◌+◌, ◌<◌, Bool, true, false, List, [], ◌∷◌, ◌++◌, map, length, get_or, take, ℤ, Some, None, Bor, sym, subst, arith}
 use Rattle.std.proofs.lemmas.List.{map_more}
-use Rattle.wiring.specs.Lists.{Each₂, none₂, more₂}
+use Rattle.wiring.proofs.Places.{each₂_push}
+use Rattle.wiring.specs.Lists.{Each₂, more₂}
 use Rattle.replay.specs.declared.log.Call.{Call}
 use Rattle.console_text.specs.Numbers.{Plain, Writes}
 use Rattle.console_text.specs.Calls.{Asks, Reads, no_lines, a_call, unread}
@@ -10,10 +11,6 @@ use Rattle.console_text.specs.Calls.{Asks, Reads, no_lines, a_call, unread}
 abbrev pub bytes : Bor (List ℕ) → List ℕ
 bytes t = t.now
 
-each_push : {A B : Type 0} {R : A → B → Type 0} {xs : List A} {ys : List B} (x : A) (y : B) → Each₂ R xs ys → R x y → Each₂ R (xs ++ x ∷ []) (ys ++ y ∷ [])
-each_push x y none₂ r = more₂ r none₂
-each_push x y (more₂ s e) r = more₂ s (each_push x y e r)
-
 -- the texts so far and one more
 texts_more : (ts : List (Bor (List ℕ))) (i : ℕ) (d : Bor (List ℕ)) → i < length ts → map bytes (take i ts) ++ bytes (get_or ts i d) ∷ [] ≡ map bytes (take (i + 1) ts)
 texts_more ts i d h = sym (map_more bytes ts i d h)
@@ -21,7 +18,7 @@ texts_more ts i d h = sym (map_more bytes ts i d h)
 pub numbers_more : (ts : List (Bor (List ℕ))) (i : ℕ) (d : Bor (List ℕ)) (z : ℤ) (zs ys : List ℤ) → i < length ts
     → Each₂ Writes (map bytes (take i ts)) zs → Writes (bytes (get_or ts i d)) z → ys ≡ zs ++ z ∷ [] → Each₂ Writes (map bytes (take (i + 1) ts)) ys
 numbers_more ts i d z zs ys h e w q =
-    subst (λ us. Each₂ Writes us ys) (texts_more ts i d h) (subst (Each₂ Writes (map bytes (take i ts) ++ bytes (get_or ts i d) ∷ [])) (sym q) (each_push (bytes (get_or ts i d)) z e w))
+    subst (λ us. Each₂ Writes us ys) (texts_more ts i d h) (subst (Each₂ Writes (map bytes (take i ts) ++ bytes (get_or ts i d) ∷ [])) (sym q) (each₂_push (bytes (get_or ts i d)) z e w))
 
 reads_push : {V : Type 0} {r n : ℕ} {ls : List (List ℕ)} {ms : List Bool} {cs : List (Call V)} (l : List ℕ) (c : Call V) → Reads r n ls ms cs → Asks r n l (Some c) → Reads r n (ls ++ l ∷ []) (ms ++ true ∷ []) (cs ++ c ∷ [])
 reads_push l c no_lines a = a_call a no_lines

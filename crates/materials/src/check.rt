@@ -34,6 +34,7 @@ fn check_part(directory: &Directory<'_>, i: usize) -> Result<(), RecordFault>
 fn check_records(directory: &Directory<'_>) -> Result<(), Refusal>
     ensures { Checks (records_fault [] 1 (parts directory.now.file.now)) result }
 {
+    // By its number: a refusal tells it, and what lies before it is named by it.
     for i in 0..directory.count() {
         check_part(directory, i).map_err(|fault| Refusal::InRecord(i + 1, fault))?;
     }

@@ -39,6 +39,7 @@ pub fn read(heap: Global, file: &[u8]) -> Result<Vec<Record>, Refusal>
 {
     let directory = checked(file)?;
     let mut out = Vec::new(heap);
+    // By its number: an iterator over parts would count it inside.
     for i in 0..directory.count() {
         let Ok(fields) = examine(directory.part(i)) else {
             unreachable();

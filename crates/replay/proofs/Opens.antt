@@ -1,5 +1,5 @@
 -- The replay: from what open leaves to the theorem on the log.
-use Rattle.std.proofs.Common.{◌≡◌, ℕ, ◌+◌, ◌≤◌, List, ◌++◌, map, length, take, drop, ℤ, Some, None, Ok, vec_items, Option, sym, refl, ap, ◌∙◌, subst, ap₂, arith}
+use Rattle.std.proofs.Common.{◌≡◌, ℕ, ◌+◌, ◌≤◌, List, ◌++◌, map, length, take, drop, ℤ, None, Ok, vec_items, Option, sym, refl, ap, ◌∙◌, subst, ap₂, arith}
 use Rattle.std.specs.Option.{option_map}
 use Rattle.std.proofs.lemmas.List.{drop_at, length-append, length-map, take_at}
 use Rattle.arithmetic.specs.declared.setting.Setting.{Setting}
@@ -13,7 +13,7 @@ use Rattle.wiring.specs.declared.faults.ProgramFault.TheVariants.{Wiring}
 use Rattle.wiring.specs.Graphs.{Graph}
 use Rattle.wiring.specs.Checks.{first, wiring_fault}
 use Rattle.wiring.specs.Programs.{list_fault, program_fault}
-use Rattle.wiring.proofs.Soundness.{first_none}
+use Rattle.wiring.proofs.Soundness.{first_none, mapped_none}
 use Rattle.sheet.proofs.Decisions.{same_point}
 use Rattle.channel.specs.declared.channel.Channel.{Channel as Running}
 use Rattle.channel.specs.declared.opening.OpenFault.TheVariants.{Format, Program}
@@ -55,10 +55,6 @@ module _ {K R O V : Type 0} (m : K → FixedArithmetic → KindModel V) (r : R �
       subst (λ x. RowShows (length x.sources) calls log row left) w (λ e at. h e at ∙ ap (λ x. vec_items e.registers ++ x) past_kept)
 
 -- ---- the check of open is the program's
-mapped_none : {A B : Type 0} (f : A → B) (x : Option A) → option_map f x ≡ None → x ≡ None
-mapped_none f None e = refl
-mapped_none f (Some a) e = absurd (let z : ◌≡◌ {A = ℕ} 0 1 = cc in omega arith)
-
 fine : {R O : Type 0} (st : Setting R O) (p : FixedPoint R O) (g : Graph) (cs : List ℤ) (row : ℕ) → open_check st.whole st.fraction g cs row ≡ None → SettingAnswer st (Ok p) → program_fault p.format g cs ≡ None
 fine st p g cs row e a =
     let x = first_none (option_map Format (format_fault st.whole st.fraction)) _ e in

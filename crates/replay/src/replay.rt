@@ -15,7 +15,7 @@ use kinds::kind::Kind;
 use std::alloc::{AllocError, Global};
 use wiring::graph::Filter;
 
-// The entry of what was told: the registers and the watch as they are now.
+// The entry of what was told: the registers and the watch as they are now. The row stays beside the channel, which is lent it at each call.
 fn entry<K: Kind, R: Rounding, O: Overflow>(
     heap: Global,
     channel: &Channel<K, R, O>,

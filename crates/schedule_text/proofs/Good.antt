@@ -1,14 +1,12 @@
 -- What a material that nothing is wrong with passes. Assumes nothing.
-use Rattle.std.proofs.Common.{◌≡◌, ℕ, suc, ◌+◌, ◌-◌, ◌^◌, ◌≤◌, max, Bool, true, false, cond, ◌&&◌, eqb, leb, List, [], ◌∷◌, ◌++◌, length, ℤ, pos, None, Err, ◌⊎◌, inl, inr, sym, refl, ap, subst, ◌∙◌, arith}
+use Rattle.std.proofs.Common.{◌≡◌, ℕ, suc, ◌+◌, ◌-◌, ◌≤◌, max, Bool, true, false, cond, ◌&&◌, eqb, leb, List, [], ◌∷◌, ◌++◌, length, ℤ, pos, None, Err, ◌⊎◌, inl, inr, sym, refl, ap, subst, ◌∙◌, arith}
 use Rattle.std.proofs.lemmas.List.{length-append}
-use Rattle.std.proofs.lemmas.Bool.{both_ways, and_parts, and_from, le-leb, lt-ltb, eq-eqb, leb-true, eqb-true}
-use Rattle.std.proofs.lemmas.Nat.{pow_below}
+use Rattle.std.proofs.lemmas.Bool.{both_ways, and_parts, and_from, le-leb, eq-eqb, leb-true, eqb-true}
 use Rattle.std.specs.Option.{option_map}
-use Rattle.arithmetic.specs.Words.{half, inside}
+use Rattle.arithmetic.specs.Words.{inside}
 use Rattle.arithmetic.specs.Formats.{format_fault}
-use Rattle.wiring.specs.Graphs.{Graph}
-use Rattle.wiring.proofs.Soundness.{first_none, unless_none}
-use Rattle.wiring.specs.Checks.{unless, first, scan, wiring_fault, counts_fault, naming_fault}
+use Rattle.wiring.proofs.Soundness.{few_registers}
+use Rattle.wiring.specs.Checks.{unless, first, scan, wiring_fault}
 use Rattle.wiring.specs.Programs.{word_fault, words_fault, list_fault}
 use Rattle.wiring.specs.declared.faults.ProgramFault.TheVariants.{Wiring, OtherLength, Coefficient}
 use Rattle.forms.specs.declared.form.Form.{Form}
@@ -19,12 +17,13 @@ use Rattle.forms.specs.declared.form.FormFault.TheVariants.{Numerator, Denominat
 use Rattle.forms.specs.Built.{numerator_good, denominator_good, BuildAnswer}
 use Rattle.forms.proofs.Sound.{sound_form}
 use Rattle.sheet.specs.declared.figures.SheetFault.TheVariants.{Format, Program, PeaksRow, CeilingsRow, BandRow, Range}
-use Rattle.sheet.specs.Calls.{Rows, in_range, call_fault, sheet_check}
+use Rattle.sheet.proofs.Decisions.{range_passes}
+use Rattle.sheet.specs.Calls.{Rows, call_fault, sheet_check}
 use Rattle.materials.specs.Layout.{Material}
 use Rattle.materials.specs.Records.{words_ok, unwritten, material_fault}
 use Rattle.materials.proofs.Rows.{cond_none}
 use Rattle.materials.proofs.Chains.{passed, bounded}
-use Rattle.schedule_text.specs.Outcomes.{range_in, range_of, coefficients_of, wiring_in}
+use Rattle.schedule_text.specs.Outcomes.{range_of, coefficients_of, wiring_in}
 
 -- words in order have no fault
 words_pass : (w i : ℕ) (cs : List ℤ) → words_ok w cs ≡ true → scan (word_fault w) i cs ≡ None
@@ -39,14 +38,6 @@ words_both w (x ∷ xs) ys h k =
     let p = and_parts (inside w x) (words_ok w xs) h in
     and_from (inside w x) (words_ok w (xs ++ ys)) p.0 (words_both w xs ys p.1 k)
 
--- a wiring that passes its check has at most 16 registers
-few_registers : (g : Graph) → wiring_fault g ≡ None → length g.sources ≤ 16
-few_registers g h =
-    let a = first_none (counts_fault g) (naming_fault g) h in
-    let b = first_none _ _ a.0 in
-    let d = first_none _ _ b.1 in
-    leb-true (length g.sources) 16 (unless_none _ _ d.0)
-
 module _ (nb na : ℕ) (some : 1 ≤ nb) where
   none_of_both : max (nb - 1) na ≡ 0 → 1 ≡ nb + na
   none_of_both e = omega arith
@@ -60,10 +51,6 @@ module _ (nb na : ℕ) (some : 1 ≤ nb) where
   count_is Direct1 = omega arith
   count_is Direct2 = omega arith
   count_is Transposed2 = transposed_count (eqb (max (nb - 1) na) 0) refl
-
--- a range of 2^(w-2) is in the limits for words of w bits
-range_passes : (w : ℕ) → 8 ≤ w → in_range w (pos (range_in w)) ≡ true
-range_passes w h = and_from _ _ (le-leb 0 (2 ^ (w - 2)) (omega arith)) (lt-ltb (2 ^ (w - 2)) (half w) (pow_below (w - 2) (w - 1) (omega arith)))
 
 module _ (m : Material) (good : material_fault m ≡ None) where
   pub format_passes : format_fault m.whole m.fraction ≡ None

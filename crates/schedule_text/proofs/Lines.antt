@@ -2,7 +2,8 @@
 use Rattle.std.proofs.Common.{◌≡◌, ℕ, ◌+◌, ◌<◌, List, [], ◌∷◌, ◌++◌, map, length, get_or, take, None, sym, refl, ap, ◌∙◌, subst, append_assoc, append-nil}
 use Rattle.std.specs.List.{AllByRecursion}
 use Rattle.std.proofs.lemmas.List.{map_more}
-use Rattle.wiring.specs.Lists.{Each₂, none₂, more₂}
+use Rattle.wiring.proofs.Places.{each₂_push}
+use Rattle.wiring.specs.Lists.{Each₂, none₂}
 use Rattle.materials.specs.declared.record.Record.{Record}
 use Rattle.materials.specs.Layout.{meaning}
 use Rattle.materials.specs.Records.{material_fault}
@@ -15,10 +16,6 @@ use Rattle.schedule_text.specs.declared.outcome.Outcome.{Outcome}
 use Rattle.schedule_text.specs.Outcomes.{OutcomeOf}
 use Rattle.schedule_text.specs.Lines.{line}
 use Rattle.schedule_text.specs.Schedules.{LineOf, joined_lines, LinesOf}
-
-each_push : {A B : Type 0} {R : A → B → Type 0} {xs : List A} {ys : List B} (x : A) (y : B) → Each₂ R xs ys → R x y → Each₂ R (xs ++ x ∷ []) (ys ++ y ∷ [])
-each_push x y none₂ r = more₂ r none₂
-each_push x y (more₂ s e) r = more₂ s (each_push x y e r)
 
 joined_push : (ls : List (List ℕ)) (l : List ℕ) → joined_lines (ls ++ l ∷ []) ≡ joined_lines ls ++ l
 joined_push [] l = append-nil l
@@ -37,7 +34,7 @@ lines_more rs i x before mid after o h is inv told e =
     let own : LineOf (meaning x) l = (o, told, refl) in
     let ms : map meaning (take i rs) ++ meaning x ∷ [] ≡ map meaning (take (i + 1) rs) = ap (λ y. map meaning (take i rs) ++ meaning y ∷ []) is ∙ sym (map_more meaning rs i x h) in (
       ls ++ l ∷ [],
-      subst (λ us. Each₂ LineOf us (ls ++ l ∷ [])) ms (each_push (meaning x) l inv.1 own),
+      subst (λ us. Each₂ LineOf us (ls ++ l ∷ [])) ms (each₂_push (meaning x) l inv.1 own),
       e ∙ (ap (λ t. t ++ l) inv.2 ∙ (append_assoc before (joined_lines ls) l ∙ ap (λ t. before ++ t) (sym (joined_push ls l)))),
     )
 

@@ -24,7 +24,7 @@ fn put_lines(heap: Global, text: &mut Vec<u8>, records: &[Record]) -> Result<(),
     Ok(())
 }
 
-// The text for a refused file.
+// The text for a refused file. It and the first line differ in a word and a type: one function would be as long as both.
 fn refused(heap: Global, number: u8) -> Result<Vec<u8>, AllocError>
     ensures { IfOk result (λ v. v.items ≡ refused_line number) }
 {

@@ -1,11 +1,14 @@
 -- From the verdict under one checked setting to the answer of the call.
-use Rattle.std.proofs.Common.{◌≡◌, ℕ, ◌+◌, ◌≤◌, List, length, Bool, true, false, ℤ, nat_abs, Some, None, Ok, Err, Option, Result, sym, refl, ◌∙◌, subst, arith}
+use Rattle.std.proofs.Common.{◌≡◌, ℕ, ◌+◌, ◌-◌, ◌≤◌, List, length, Bool, true, false, ℤ, pos, nat_abs, Some, None, Ok, Err, Option, Result, sym, refl, ◌∙◌, subst, arith}
 use mathlib.Core.HLevel.{is_prop→PathP}
 use native.Mathlib.Bridge.{le_prop}
 use Rattle.std.specs.Option.{option_map}
 use Rattle.arithmetic.specs.declared.format.Format.{Format}
 use Rattle.arithmetic.specs.declared.setting.Setting.{Setting}
 use Rattle.arithmetic.specs.declared.setting.FixedPoint.{FixedPoint}
+use Rattle.std.proofs.lemmas.Bool.{and_from, le-leb, lt-ltb}
+use Rattle.std.proofs.lemmas.Nat.{pow_below}
+use Rattle.arithmetic.specs.Words.{half, quarter}
 use Rattle.arithmetic.specs.Formats.{width, format_fault}
 use Rattle.arithmetic.specs.Rounding.{RoundingRule}
 use Rattle.arithmetic.specs.Overflow.{OverflowRule}
@@ -14,12 +17,11 @@ use Rattle.wiring.specs.declared.faults.ProgramFault.TheVariants.{Wiring}
 use Rattle.wiring.specs.Graphs.{Graph}
 use Rattle.kinds.specs.declared.refusal.Refusal.{Refusal}
 use Rattle.wiring.specs.Checks.{unless, first, wiring_fault}
-use Rattle.wiring.specs.Runs.{or_fault}
 use Rattle.wiring.specs.Programs.{list_fault, program_fault}
 use Rattle.sheet.specs.declared.figures.Figures.{Figures}
 use Rattle.sheet.specs.declared.figures.SheetFault.{SheetFault}
 use Rattle.sheet.specs.declared.figures.SheetFault.TheVariants.{Format as OfFormat, Program, PeaksRow, CeilingsRow, BandRow, Range, Node}
-use Rattle.sheet.specs.Calls.{Rows, call_fault, sheet_check, Verdict, SheetAnswer}
+use Rattle.sheet.specs.Calls.{Rows, in_range, call_fault, sheet_check, Verdict, SheetAnswer}
 
 -- ---- a setting has one checked form
 same_format : (a b : Format) → a.whole ≡ b.whole → a.fraction ≡ b.fraction → a ≡ b
@@ -53,15 +55,12 @@ module _ (k l : ℕ) (g : Graph) (cs : List ℤ) (lent : Rows) (x : ℤ) (f : Fo
       let c' : call_fault (k + l) (length g.sources) (length lent.peaks) (length lent.ceilings) (length lent.band) x ≡ o = subst (λ w. call_fault w (length g.sources) (length lent.peaks) (length lent.ceilings) (length lent.band) x ≡ o) as_width c in
       (λ i. first (option_map OfFormat (a i)) (first (option_map Program (b' i)) (call_fault (k + l) (length g.sources) (length lent.peaks) (length lent.ceilings) (length lent.band) x))) ∙ c'
 
+-- ---- the range
+-- a quarter of the words of w bits is a range in the limits
+pub range_passes : (w : ℕ) → 8 ≤ w → in_range w (pos (quarter w)) ≡ true
+range_passes w h = and_from _ _ (le-leb 0 (quarter w) (omega arith)) (lt-ltb (quarter w) (half w) (pow_below (w - 2) (w - 1) (omega arith)))
+
 -- ---- what the check of a call answers
-pub or_none : {A E : Type 0} (o : Option E) (a b : A) → Ok a ≡ or_fault o (Ok b) → o ≡ None
-or_none None a b e = refl
-or_none (Some f) a b e = absurd (let z : ◌≡◌ {A = ℕ} 0 1 = cc in omega arith)
-
-pub or_some : {A E : Type 0} (o : Option E) (f : E) (b : A) → Err f ≡ or_fault o (Ok b) → o ≡ Some f
-or_some None f b e = absurd (let z : ◌≡◌ {A = ℕ} 0 1 = cc in omega arith)
-or_some (Some d) f b e = cc
-
 -- it names no node
 no_node : (p q r s : Bool) (k : ℕ) (e : Refusal) → first (unless p PeaksRow) (first (unless q CeilingsRow) (first (unless r BandRow) (unless s Range))) ≡ Some (Node k e) → ⊥
 no_node false q r s k e h = let z : ◌≡◌ {A = ℕ} 0 1 = cc in omega arith

@@ -20,6 +20,7 @@ pub(crate) struct Rounds<R, O> {
 }
 
 // The rows of rounds: a box lies in the first places of the register row, and the nodes' values in those of the working row.
+// By a rule of the project a sheet asks for no memory, so the rows are as long as the limits.
 // Apart from `Rounds`, since they alone change: so no contract has to say that setting and program stay.
 #[derive(Clone, Copy)]
 pub(crate) struct BoundRows {

@@ -12,6 +12,10 @@ each₂_at none₂ z i = z
 each₂_at (more₂ h hs) z zero = h
 each₂_at (more₂ h hs) z (suc i) = each₂_at hs z i
 
+pub each₂_push : {A B : Type 0} {R : A → B → Type 0} {xs : List A} {ys : List B} (x : A) (y : B) → Each₂ R xs ys → R x y → Each₂ R (xs ++ x ∷ []) (ys ++ y ∷ [])
+each₂_push x y none₂ r = more₂ r none₂
+each₂_push x y (more₂ s e) r = more₂ s (each₂_push x y e r)
+
 -- P of each entry on the left goes along
 pub each₂_with : {A B : Type 0} {P : A → Type 0} {R : A → B → Type 0} {xs : List A} {ys : List B} → All P xs → Each₂ R xs ys → Each₂ (λ a b. P a × R a b) xs ys
 each₂_with all_none none₂ = none₂

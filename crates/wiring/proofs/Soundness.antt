@@ -11,7 +11,7 @@ use Rattle.wiring.specs.declared.faults.WiringFault.TheVariants.{NoOutput}
 use Rattle.wiring.specs.declared.faults.ProgramFault.TheVariants.{Wiring, OtherLength}
 use Rattle.wiring.specs.Lists.{All, all_none, all_more}
 use Rattle.wiring.specs.Graphs.{Graph}
-use Rattle.wiring.specs.Checks.{unless, first, scan, counts_fault, node_fault, nodes_fault, source_fault, sources_fault, naming_fault, wiring_fault}
+use Rattle.wiring.specs.Checks.{unless, first, scan, register_limit, counts_fault, node_fault, nodes_fault, source_fault, sources_fault, naming_fault, wiring_fault}
 use Rattle.wiring.specs.Programs.{word_fault, words_fault, list_fault, program_fault, all_small, sound}
 
 pub first_none : {F : Type 0} (a b : Option F) → first a b ≡ None → (a ≡ None) × (b ≡ None)
@@ -22,7 +22,7 @@ pub unless_none : {F : Type 0} (t : Bool) (f : F) → unless t f ≡ None → t 
 unless_none true f e = refl
 unless_none false f e = absurd (let z : ◌≡◌ {A = ℕ} 0 1 = cc in omega arith)
 
-mapped_none : {A B : Type 0} (f : A → B) (o : Option A) → option_map f o ≡ None → o ≡ None
+pub mapped_none : {A B : Type 0} (f : A → B) (o : Option A) → option_map f o ≡ None → o ≡ None
 mapped_none f None e = refl
 mapped_none f (Some a) e = absurd (let z : ◌≡◌ {A = ℕ} 0 1 = cc in omega arith)
 
@@ -77,6 +77,14 @@ program_sound f g cs e =
     let n = first_none (counts_fault g) (naming_fault g) (mapped_none Wiring _ t.0) in
     let l = first_none (unless (eqb (length cs) g.coefficients) OtherLength) (words_fault (width f) cs) t.1 in
     and_in _ _ (not_some _ n.1) (and_in _ _ (unless_none _ _ l.0) (words_small (width f) cs f.sound.3 (program_words f g cs e)))
+
+-- a wiring that passes its check has at most 16 registers
+pub few_registers : (g : Graph) → wiring_fault g ≡ None → length g.sources ≤ register_limit
+few_registers g h =
+    let a = first_none (counts_fault g) (naming_fault g) h in
+    let b = first_none _ _ a.0 in
+    let d = first_none _ _ b.1 in
+    leb-true (length g.sources) register_limit (unless_none _ _ d.0)
 
 -- another list that passes the check keeps what every program keeps
 pub relisted : (f : Format) (g : Graph) (old cs : List ℤ) → sound g old ≡ true → list_fault (width f) g.coefficients cs ≡ None → sound g cs ≡ true

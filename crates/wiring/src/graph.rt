@@ -1,4 +1,4 @@
-// One node of a wiring. Nodes, registers and coefficients are named by their numbers, from 0.
+// One node of a wiring. Nodes, registers and coefficients are named by their numbers, from 0: users write them so, and refusals tell them.
 #[derive(Clone, Copy, PartialEq, Eq, Debug)]
 pub enum Node {
     // The sample.

@@ -4,9 +4,10 @@ use Rattle.std.proofs.lemmas.Int.{to_z-of_z}
 use Rattle.arithmetic.specs.Formats.{width}
 use Rattle.arithmetic.specs.Settings.{meaning}
 use Rattle.wiring.specs.Graphs.{Graph, graph_of}
+use Rattle.wiring.proofs.Verdicts.{fault_none, fault_some}
 use Rattle.sheet.specs.Searching.{program_graph, program_list}
 use Rattle.sheet.specs.Calls.{rows, call_fault, Verdict}
-use Rattle.sheet.proofs.Decisions.{or_none, or_some, check_is, refuses, decides}
+use Rattle.sheet.proofs.Decisions.{check_is, refuses, decides}
 use Rattle.sheet.proofs.sheet.sheet.Goals as goal
 
 pub returns-in_err-check_call : goal.returns-in_err-check_call
@@ -22,7 +23,7 @@ returns-in_err-check_call g c =
     let count : length c.sources.result.now ≡ length w.sources = ap length c.sources.ensures ∙ ap (λ (h : Graph). length h.sources) made.1 in
     let f = c.in_err-check_call.field-0.0 in
     let fault : call_fault (width q.format) (length w.sources) (length c.args.peaks.now) (length c.args.ceilings.now) (length c.args.band.now) c.args.range ≡ Some f
-    = (λ i. call_fault (width q.format) (sym count i) (length c.args.peaks.now) (length c.args.ceilings.now) (length c.args.band.now) (sym same i)) ∙ or_some _ f tt c.in_err-check_call.ensures in
+    = (λ i. call_fault (width q.format) (sym count i) (length c.args.peaks.now) (length c.args.ceilings.now) (length c.args.band.now) (sym same i)) ∙ fault_some _ tt f c.in_err-check_call.ensures in
     let e = err_from_is_err_and c.from_residual-in_err-check_call.result c.from_residual-in_err-check_call.ensures.1 in
     rw (e.1, e.2) (refuses g.R.Rounding.rule g.O.Overflow.rule st w cs c.args.range before (width q.format) (length w.sources) (length c.args.peaks.now) (length c.args.ceilings.now) (length c.args.band.now) f fault
     (check_is st.whole st.fraction w cs before c.args.range q.format known.1 known.2 (Some f) known.0 made.0 fault))
@@ -41,7 +42,7 @@ returns g c =
     let same = to_z-of_z w32 c.args.range c.ranges.range in
     let count : length c.sources.result.now ≡ length w.sources = ap length c.sources.ensures ∙ ap (λ (h : Graph). length h.sources) made.1 in
     let fine : call_fault (width q.format) (length w.sources) (length c.args.peaks.now) (length c.args.ceilings.now) (length c.args.band.now) c.args.range ≡ None
-    = (λ i. call_fault (width q.format) (sym count i) (length c.args.peaks.now) (length c.args.ceilings.now) (length c.args.band.now) (sym same i)) ∙ or_none _ _ tt c.in_ok-check_call.ensures in
+    = (λ i. call_fault (width q.format) (sym count i) (length c.args.peaks.now) (length c.args.ceilings.now) (length c.args.band.now) (sym same i)) ∙ fault_none _ _ tt c.in_ok-check_call.ensures in
     let s = meaning g.R.Rounding.rule g.O.Overflow.rule q in
     let v : Verdict s (program_graph p) (program_list p) (nat_abs (to_z w32 (of_z w32 c.args.range))) before after c.make.result = c.make.ensures in
     decides g.R.Rounding.rule g.O.Overflow.rule st w cs c.args.range before after q known
