@@ -5,9 +5,7 @@ use std::alloc::Global;
 
 // The digest with a list of coefficients.
 fn mix_words(digest: u64, words: &[i32]) -> u64 {
-    words
-        .iter()
-        .fold(digest, |all, word| mix(all, u64::from(word.unsigned_abs())))
+    words.iter().fold(digest, |all, word| mix(all, u64::from(word.unsigned_abs())))
 }
 
 // The digest with the last of these records.
