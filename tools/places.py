@@ -98,7 +98,7 @@ report(3, "a counter kept by hand", found(r"^\s*\w+ \+= 1;$|saturating_add\(1\)"
 # 4: conversions and printing by hand
 report(4, "a match that passes a value on", found(r"match [^{}]+\{\s*(?:Ok|Some)\((\w+)\) => (?:(?:Ok|Some)\(\1\)|\1),\s*(?:Err|None)[^\n]*"))
 report(4, "a match that keeps one side", found(r"match [^{}]+\{\s*Ok\((?:_|\(\))\) => [^\n]*\s*Err\([^\n]*|Err\(_\) => None,|None => None,"))
-report(4, "functions that turn one fault into another", found(r"fn \w+\(\w+: \w*Fault\) -> \w*Fault"))
+report(4, "functions that turn one fault into another", found(r"fn (?!from\b)\w+\(\w+: \w*Fault\) -> \w*Fault"))
 report(4, "functions that print a value into a String", found(r"fn \w+(?:<[^>]*>)?\([^)]*heap: Global[^)]*\) -> Result<String"))
 
 # 5: facts and parameters that stand together

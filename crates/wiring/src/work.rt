@@ -69,7 +69,7 @@ impl Program {
         ensures registers { (d : V) → registers.new ≡ unless_fault (program_rows_fault self.now (length registers.old) (length working.now)) (registers_after d (graph_of self.now.wiring) registers.old working.now) registers.old }
     {
         self.check_rows(registers.len(), working.len())?;
-        // By the index: after an adapter of iter_mut a proof knows nothing of the row.
+        // By the index: tried `registers.iter_mut().zip(..)`, but no invariant can name the lent row there.
         for (i, source) in self.wiring.sources.iter().enumerate() {
             registers[i] = fetch(working, *source);
         }
