@@ -7,7 +7,7 @@ use Rattle.arithmetic.specs.Words.{Inside}
 use Rattle.arithmetic.specs.Rounding.{LawfulRounding, floor, nearest, toward_zero}
 use Rattle.arithmetic.specs.Overflow.{LawfulOverflow, wrapped, wrap, saturate, stop}
 use Rattle.arithmetic.specs.Divisions.{twice_half, floor_near, floor_reach, nearest_near, nearest_reach, zero_near, zero_reach, quotient_rises}
-use Rattle.arithmetic.specs.Turns.{wrapped_same, wrapped_word}
+use Rattle.arithmetic.specs.Turns.{wrapped_same, wrapped_word, word_out}
 
 pub floor_lawful : LawfulRounding floor
 floor_lawful = record {
@@ -38,7 +38,7 @@ toward_zero_lawful = record {
 
 pub wrap_lawful : LawfulOverflow wrap
 wrap_lawful = record {
-  answers_words = λ w raw z h e. let same : wrapped w raw ≡ z = cc in subst (Inside w) same (wrapped_word w raw (omega arith));
+  answers_words = λ w raw z h e. word_out (Inside w) (wrapped w raw) z e (wrapped_word w raw (omega arith));
   keeps_words = λ w raw h i. ap Some (wrapped_same w raw (omega arith) i);
 }
 

@@ -1,7 +1,7 @@
 -- Whole turns of n: the number from 0 to n - 1, and the number from -h to h - 1 where n is twice h.
-use Rattle.std.specs.Prelude.{◌≡◌, ℕ, suc, ◌+◌, ◌-◌, ◌*◌, ◌/◌, ◌%◌, ◌^◌, ◌<◌, ◌≤◌, ℤ, pos, negsuc, ◌+ℤ◌, ◌-ℤ◌, ◌*ℤ◌, neg_ℤ, ◌≤ℤ◌, ◌<ℤ◌, FitsSigned}
+use Rattle.std.specs.Prelude.{Some, ◌≡◌, ℕ, suc, ◌+◌, ◌-◌, ◌*◌, ◌/◌, ◌%◌, ◌^◌, ◌<◌, ◌≤◌, ℤ, pos, negsuc, ◌+ℤ◌, ◌-ℤ◌, ◌*ℤ◌, neg_ℤ, ◌≤ℤ◌, ◌<ℤ◌, FitsSigned}
 use Rattle.std.proofs.Math.Path.{refl, sym, ap}
-use Rattle.std.proofs.Common.{◌∙◌, mod-lt, arith, to_z, of_z}
+use Rattle.std.proofs.Common.{◌∙◌, mod-lt, arith, to_z, of_z, subst}
 use Rattle.std.proofs.Math.Nat.{div-add-mod}
 use borrow.Author.Differences.{ints, up, down, same_in, sum_is_lem, product_is}
 use Rattle.std.proofs.Math.IntN.{+ℤ_idl, zero-*ℤ, *ℤ_comm}
@@ -131,3 +131,7 @@ pub shifted : (w s : ℕ) (raw : ℤ) → 8 ≤ w → w ≤ 28 → s ≡ 64 - w 
 shifted w s raw some few e f =
     let g : FitsSigned w64 (pos (2 ^ s)) = omega (arith, ints, pow_below s 63 (omega arith)) in
     ap (λ x. shr_z x (2 ^ s)) (shifted_up w s raw (omega arith) (omega arith) f g) ∙ shifted_down (2 ^ s) (wrapped w raw) (pow_pos s)
+
+-- what holds of the word in an answer holds of each word that the answer is
+pub word_out : (P : ℤ → Type 0) (a b : ℤ) → Some a ≡ Some b → P a → P b
+word_out P a b e p = subst P (cc) p

@@ -60,6 +60,7 @@ impl<K: Kind, R: Rounding, O: Overflow> Channel<K, R, O> {
             tell(&mut self.watch, Event::Swap);
             return Ok(());
         };
+        // Here and not in a From: a list has no wiring that could be at fault.
         match fault {
             ProgramFault::OtherLength => Err(CallFault::OtherLength),
             ProgramFault::Coefficient(i) => Err(CallFault::Coefficient(i)),

@@ -71,6 +71,7 @@ fn work_line(rt: &HostRuntime, line: &[u8]) -> Result<(), Fault> {
 fn work_lines(rt: &HostRuntime) -> Result<(), Fault> {
     let mut input = BufReader::new(rt.alloc(), rt.stdin())?;
     let mut line = Vec::new(rt.alloc());
+    // The language's own form of a loop that waits for input.
     for _ in 0..u64::MAX {
         line.clear();
         if input.read_until(b'\n', &mut line)? == 0 {

@@ -33,7 +33,7 @@ pub fn read_at_most(text: &str, most: usize) -> Result<usize, Fault>
 }
 
 /// The items of a list, with a comma between two of them; none where it is a dash.
-pub fn read_items<T: Drop, F: FnMut(&str) -> Result<T, Fault> + Drop>(
+pub(crate) fn read_items<T: Drop, F: FnMut(&str) -> Result<T, Fault> + Drop>(
     heap: Global,
     text: &str,
     item: F,

@@ -110,6 +110,7 @@ pub struct Refused {
     pub place: Option<usize>,
 }
 
+// Twice the same match, of two enums that have this case alone in common.
 impl From<CallFault> for Refused {
     fn from(fault: CallFault) -> Refused {
         let place = match fault {

@@ -4,7 +4,7 @@ ghost use Rattle.console_text.specs.Calls.{Asks};
 ghost use Rattle.console_text.specs.Numbers.{NumberOf, NumbersOf};
 
 use crate::pieces::pieces;
-use crate::rows::Rows;
+use crate::rows::RowMaker;
 use replay::log::Call;
 use std::alloc::{AllocError, Global};
 use std::str::from_utf8;
@@ -38,7 +38,7 @@ fn numbers(heap: Global, texts: &[&[u8]]) -> Result<Option<Vec<i32>>, AllocError
 pub(crate) fn read_call<V: Copy>(
     heap: Global,
     line: &[u8],
-    rows: &Rows<V>,
+    rows: &RowMaker<V>,
 ) -> Result<Option<Call<V>>, AllocError>
     ensures { IfOk result (λ c. Asks rows.now.registers rows.now.nodes line.now c) }
 {

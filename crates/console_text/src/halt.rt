@@ -15,7 +15,7 @@ use std::alloc::AllocError;
 /// Why there is no text.
 #[derive(Debug, Drop)]
 pub enum Halt {
-    /// Refused by a number.
+    /// Refused by a number, which is all that the console tells of it.
     Refused(u32),
     /// Memory ran out.
     Memory,

@@ -5,13 +5,13 @@ use std::alloc::{AllocError, Global};
 
 /// How many registers and nodes a channel has, and the zero that its rows are filled with.
 #[derive(Clone, Copy)]
-pub(crate) struct Rows<V> {
+pub(crate) struct RowMaker<V> {
     pub(crate) registers: usize,
     pub(crate) nodes: usize,
     pub(crate) zero: V,
 }
 
-impl<V: Copy> Rows<V> {
+impl<V: Copy> RowMaker<V> {
     /// So many zeros.
     pub(crate) fn zeros(&self, heap: Global, count: usize) -> Result<Vec<V>, AllocError>
         ensures { IfOk result (λ v. v.items ≡ replicate count self.now.zero) }

@@ -3,7 +3,7 @@ ghost use Rattle.std.specs.Prelude.{map, IfOk};
 ghost use Rattle.console_text.specs.Calls.{Reads};
 
 use crate::call::read_call;
-use crate::rows::Rows;
+use crate::rows::RowMaker;
 use replay::log::Call;
 use std::alloc::{AllocError, Global};
 
@@ -19,7 +19,7 @@ pub(crate) struct Script<V> {
 pub(crate) fn read_script<V: Copy>(
     heap: Global,
     lines: &[&[u8]],
-    rows: &Rows<V>,
+    rows: &RowMaker<V>,
 ) -> Result<Script<V>, AllocError>
     ensures { IfOk result (λ s. Reads rows.now.registers rows.now.nodes (map (λ l. l.now) lines.now) s.marks.items s.calls.items) }
 {

@@ -11,7 +11,7 @@ ghost use Rattle.console_text.specs.Consoles.{StandsFor, OverKind, ConsoleText};
 use crate::halt::Halt;
 use crate::pieces::lines;
 use crate::record::{Chosen, filter_of, limits_of};
-use crate::rows::Rows;
+use crate::rows::RowMaker;
 use crate::script::read_script;
 use crate::show::Shown;
 use crate::text::session_text;
@@ -36,7 +36,7 @@ fn replayed<K: Kind + Drop>(
     setting: &Chosen,
     filter: Filter,
     limits: Option<Limits>,
-    rows: &Rows<K::Value>,
+    rows: &RowMaker<K::Value>,
     calls: &[Call<K::Value>],
 ) -> Result<Vec<Entry<K::Value>>, Halt>
     requires { rows.now.registers ≡ length (graph_of filter.wiring).sources }
@@ -63,7 +63,7 @@ where
     let limits = limits_of(heap, item, choices.form, &setting)?;
     let filter = filter_of(heap, item, choices.form)?;
     let lines = lines(heap, input)?;
-    let rows = Rows {
+    let rows = RowMaker {
         registers: filter.wiring.sources.len(),
         nodes: filter.wiring.nodes.len(),
         zero: kind.zero(&setting.check()?),

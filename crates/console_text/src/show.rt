@@ -47,7 +47,7 @@ impl Shown for Bound {
 
 /// The fields of a value.
 #[derive_where(Clone, Copy)]
-pub struct Fields<'a, V>(pub &'a V);
+pub(crate) struct Fields<'a, V>(pub &'a V);
 
 impl<V: Shown> fmt::Display for Fields<'_, V> {
     ghost output = { λ x. Some (V.Shown.fields x.0.now) };
@@ -78,9 +78,9 @@ impl fmt::Display for Watched {
 
 // The node that refused, or a dash where none did.
 #[derive(Clone, Copy)]
-struct Node(CallFault);
+struct AtNode(CallFault);
 
-impl fmt::Display for Node {
+impl fmt::Display for AtNode {
     ghost output = { λ x. Some (node_field x.0) };
 
     fn fmt<W: fmt::Write>(&self, f: &mut fmt::Formatter<W>) -> fmt::Result {
@@ -107,7 +107,7 @@ impl<V: Shown> fmt::Display for Answer<'_, V> {
             Told::Hushed => write!(f, "hushed\t{watch}"),
             Told::Refused(fault) => {
                 let number = fault.number();
-                let node = Node(*fault);
+                let node = AtNode(*fault);
                 write!(f, "refused\t{number}\t{node}\t{watch}")
             }
         }

@@ -54,3 +54,51 @@ pub trait Kind {
 
     ghost lawful: { (k : Self) (s : FixedArithmetic) → Lawful s → LawfulKind s (model k s) };
 }
+
+// A kind that is lent is a kind too.
+impl<K: Kind> Kind for &K {
+    type Value = K::Value;
+
+    ghost model = { λ k. K.Kind.model k.now };
+
+    ghost lawful = { λ k. K.Kind.lawful k.now };
+
+    fn sample<R: Rounding, O: Overflow>(
+        &self,
+        setting: &FixedPoint<R, O>,
+        u: i32,
+    ) -> Result<K::Value, Refusal> {
+        K::sample(*self, setting, u)
+    }
+
+    fn zero<R: Rounding, O: Overflow>(&self, setting: &FixedPoint<R, O>) -> K::Value {
+        K::zero(*self, setting)
+    }
+
+    fn scale<R: Rounding, O: Overflow>(
+        &self,
+        setting: &FixedPoint<R, O>,
+        c: Coefficient,
+        v: K::Value,
+    ) -> Result<K::Value, Refusal> {
+        K::scale(*self, setting, c, v)
+    }
+
+    fn sum<R: Rounding, O: Overflow>(
+        &self,
+        setting: &FixedPoint<R, O>,
+        v: K::Value,
+        w: K::Value,
+    ) -> Result<K::Value, Refusal> {
+        K::sum(*self, setting, v, w)
+    }
+
+    fn difference<R: Rounding, O: Overflow>(
+        &self,
+        setting: &FixedPoint<R, O>,
+        v: K::Value,
+        w: K::Value,
+    ) -> Result<K::Value, Refusal> {
+        K::difference(*self, setting, v, w)
+    }
+}

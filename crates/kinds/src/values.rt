@@ -2,7 +2,7 @@ ghost use Rattle.std.specs.Prelude.{◌^◌, ◌≤◌, unsigned_abs};
 
 use arithmetic::setting::FixedPoint;
 
-// A kind of value under a checked setting: the values that a run is worked over.
+// A kind of value, or a lent one, under a checked setting: the values that a run is worked over.
 #[derive(Drop)]
 pub struct Values<K, R, O> {
     pub kind: K,

@@ -1,5 +1,5 @@
 -- Pairs and the parts that they name. Assumes nothing.
-use Rattle.std.proofs.Common.{◌≡◌, ℕ, zero, suc, ◌+◌, ◌-◌, ◌*◌, ◌<◌, ◌≤◌, min, Bool, cond, eqb, List, [], ◌∷◌, map, length, get_or, take, drop, Some, None, Option, sym, refl, ap, ◌∙◌, ⊎_elim, arith}
+use Rattle.std.proofs.Common.{drop-drop, ◌≡◌, ℕ, zero, suc, ◌+◌, ◌-◌, ◌*◌, ◌<◌, ◌≤◌, min, Bool, cond, eqb, List, [], ◌∷◌, map, length, get_or, take, drop, Some, None, Option, sym, refl, ap, ◌∙◌, ⊎_elim, arith}
 use Rattle.std.proofs.lemmas.List.{get_or-drop, get_or-take, drop-take, get_or-map, length-map, take_all, at_drop_more, at_drop_all}
 use Rattle.std.proofs.lemmas.Bool.{eqb-true, cases_lt}
 use Rattle.std.proofs.lemmas.Bool.Decides.{nat_tests, same_from_decides, Decides-eqb}
@@ -17,6 +17,14 @@ use Rattle.materials.proofs.Rows.{cond_none, or_else_none}
 pub length_pairs : (n : ℕ) (bs : List ℕ) → length (pairs_of n bs) ≡ n
 length_pairs zero bs = refl
 length_pairs (suc n) bs = ap suc (length_pairs n (drop 6 bs))
+
+pub get_or_pairs : (n : ℕ) (bs : List ℕ) (i : ℕ) (d : ℕ × ℕ) → i < n → get_or (pairs_of n bs) i d ≡ (four_at (drop (6 * i) bs), two_at (drop (6 * i + 4) bs))
+get_or_pairs zero bs i d h = absurd (omega arith)
+get_or_pairs (suc n) bs zero d h = refl
+get_or_pairs (suc n) bs (suc i) d h =
+    let a : drop (6 * i) (drop 6 bs) ≡ drop (6 * suc i) bs = drop-drop (6 * i) 6 bs ∙ ap (λ k. drop k bs) (omega arith) in
+    let b : drop (6 * i + 4) (drop 6 bs) ≡ drop (6 * suc i + 4) bs = drop-drop (6 * i + 4) 6 bs ∙ ap (λ k. drop k bs) (omega arith) in
+    get_or_pairs n (drop 6 bs) i d (omega arith) ∙ (λ j. (four_at (a j), two_at (b j)))
 
 pub placed_le : (n o : ℕ) (ps : List (ℕ × ℕ)) (end : ℕ) → misplaced n o ps end ≡ None → o ≤ end
 placed_le n o [] end h = let e = eqb-true o end (cond_none (eqb o end) None FileEndOutOfPlace h).0 in omega arith

@@ -1,5 +1,5 @@
 -- Decision tables, taken apart and put together. Assumes nothing.
-use Rattle.std.proofs.Common.{◌≡◌, ℕ, Bool, true, false, cond, List, [], ◌∷◌, ◌++◌, Some, None, Option, Ok, Err, Result, MatchResult, sym, refl, ap, ◌∙◌, arith}
+use Rattle.std.proofs.Common.{◌≡◌, ℕ, Bool, true, false, cond, List, [], ◌∷◌, ◌++◌, Some, None, Option, Ok, Err, Result, MatchResult, sym, refl, ap, ◌∙◌, arith, subst}
 use Rattle.std.proofs.lemmas.Bool.{false≢true}
 use Rattle.std.specs.Result.{is_ok}
 use Rattle.materials.specs.declared.refusal.RecordFault.{RecordFault}
@@ -31,6 +31,15 @@ with_number o n d (Err e) h m = (e, h, m)
 pub without_fault : {X : Type 0} (P : X → Type 0) (o : Option RecordFault) (r : Result X RecordFault) → Checks o r → MatchResult r P (λ e. ⊥) → o ≡ None
 without_fault P o (Ok x) h m = h
 without_fault P o (Err e) h m = absurd m
+
+-- the same of an answer that says more where it is good
+pub refused_good : {X : Type 0} (P : X → Type 0) (o : Option RecordFault) (n : ℕ) (d : Refusal) (r : Result X RecordFault) → MatchResult r P (λ e. o ≡ Some e) → MatchResult r (λ x. ◌≡◌ {A = Result X Refusal} (Err d) (Ok x)) (λ e. d ≡ InRecord n e) → (e : RecordFault) × (o ≡ Some e) × (d ≡ InRecord n e)
+refused_good P o n d (Ok x) h m = absurd (false≢true (ap is_ok m))
+refused_good P o n d (Err e) h m = (e, h, m)
+
+pub taken_good : {X : Type 0} (P : X → Type 0) (Q : RecordFault → Type 0) (r : Result X RecordFault) (g : X) → MatchResult r P Q → MatchResult r (λ x. ◌≡◌ {A = Result X Refusal} (Ok g) (Ok x)) (λ e. ⊥) → P g
+taken_good P Q (Ok x) g h m = let e : x ≡ g = cc in subst P e h
+taken_good P Q (Err e) g h m = absurd m
 
 module _ {X : Type 0} where
   -- two tables, one after the other

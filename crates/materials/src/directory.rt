@@ -24,7 +24,7 @@ pub(crate) struct Directory<'a> {
 }
 
 // The place that a pair tells.
-fn told_by(pair: &[u8; 6]) -> Place
+fn place_of(pair: &[u8; 6]) -> Place
     ensures { (result.offset ≡ four_at pair.now) × (result.length ≡ two_at (drop 4 pair.now)) }
 {
     let [a, b, c, d, e, f] = *pair;
@@ -40,7 +40,7 @@ fn check_places(pairs: &[[u8; 6]], start: usize, file_end: usize) -> Result<(), 
 {
     let mut end = start;
     for (i, pair) in pairs.iter().enumerate() {
-        let place = told_by(pair);
+        let place = place_of(pair);
         if place.offset as usize != end {
             return Err(Refusal::PairOutOfPlace(i + 1));
         }
@@ -85,7 +85,7 @@ impl<'a> Directory<'a> {
         requires { i < count_of self.now.file.now }
         ensures { (result.offset, result.length) ≡ slice_index_or (pairs_in self.now.file.now) i (0, 0) }
     {
-        told_by(&self.pairs[i])
+        place_of(&self.pairs[i])
     }
 
     // The part of the file that is its record `i`, from 0.

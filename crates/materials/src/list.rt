@@ -80,10 +80,8 @@ pub(crate) fn check_list(records: &[Record]) -> Result<GoodList<'_>, Refusal>
     }
     let mut size = 2 + 6 * records.len();
     for (i, item) in records.iter().enumerate() {
-        match Good::of(item, &records[..i]) {
-            Err(fault) => return Err(Refusal::InRecord(i + 1, fault)),
-            Ok(good) => size += good.length(),
-        }
+        let good = Good::of(item, &records[..i]).map_err(|fault| Refusal::InRecord(i + 1, fault))?;
+        size += good.length();
     }
     Ok(GoodList { records, size })
 }

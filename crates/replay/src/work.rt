@@ -77,6 +77,7 @@ pub(crate) fn work<K: Kind, R: Rounding, O: Overflow>(
             sample,
         } => {
             let count = (*registers).min(row.len());
+            // The proof takes the two ways apart at the `?`.
             Ok(feed_on(heap, channel, &mut row[0..count], working, *sample)?)
         }
         Call::Swap(coefficients) => Ok(swap_on(channel, coefficients)),

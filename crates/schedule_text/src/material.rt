@@ -19,7 +19,7 @@ fn filter(heap: Global, form: Form, item: &Record) -> Result<Filter, AllocError>
 {
     match form.build(heap, item.feedforward.as_slice(), item.feedback.as_slice()) {
         Ok(filter) => Ok(filter),
-        // Matched apart: in one pattern the proof would not learn which case it is.
+        // A match in a match: `map_err` would have to answer in the cases that cannot be, and in one pattern the proof would not learn which case it is.
         Err(fault) => match fault {
             FormFault::Memory => Err(AllocError),
             FormFault::Numerator | FormFault::Denominator => unreachable!(),

@@ -9,7 +9,7 @@ use std::fmt;
 pub enum Outcome {
     /// It has a sheet, with these figures.
     Fits(Figures),
-    /// It has none: the number of the refusal, and the node that refused.
+    /// It has none: the number of the refusal, which is all that the schedule tells of it, and the node that refused.
     NoSheet { number: u32, node: usize },
 }
 

@@ -1,9 +1,9 @@
 //! The whole text of the schedule.
-ghost use Rattle.std.specs.Prelude.{◌≡◌, ◌++◌, map, length, IfOk, None, string_bytes, OnOk};
+ghost use Rattle.std.specs.Prelude.{◌≡◌, [], ◌∷◌, ◌++◌, map, length, IfOk, None, string_bytes, decimal, OnOk};
 ghost use Rattle.std.specs.List.{AllByRecursion};
 ghost use Rattle.materials.specs.Layout.{meaning};
 ghost use Rattle.materials.specs.Lists.{record_fault};
-ghost use Rattle.schedule_text.specs.Lines.{refused_line, count_line};
+ghost use Rattle.schedule_text.specs.Lines.{fields};
 ghost use Rattle.schedule_text.specs.Schedules.{LinesOf, ScheduleOf};
 
 use crate::line::put_line;
@@ -24,18 +24,11 @@ fn put_lines(heap: Global, text: &mut Vec<u8>, records: &[Record]) -> Result<(),
     Ok(())
 }
 
-// The text for a refused file. It and the first line differ in a word and a type: one function would be as long as both.
-fn refused(heap: Global, number: u8) -> Result<Vec<u8>, AllocError>
-    ensures { IfOk result (λ v. v.items ≡ refused_line number) }
+// A line of a word and a number.
+fn line(heap: Global, word: &str, number: usize) -> Result<Vec<u8>, AllocError>
+    ensures { IfOk result (λ v. v.items ≡ word.now ++ fields (decimal number ∷ [])) }
 {
-    Ok(format!(in heap; "refused\t{number}\n")?.into_bytes())
-}
-
-// The first line for so many materials.
-fn first_line(heap: Global, count: usize) -> Result<Vec<u8>, AllocError>
-    ensures { IfOk result (λ v. v.items ≡ count_line count) }
-{
-    Ok(format!(in heap; "materials\t{count}\n")?.into_bytes())
+    Ok(format!(in heap; "{word}\t{number}\n")?.into_bytes())
 }
 
 /// The schedule of a materials file: the count of its materials, then a line for each in file order; or the number by which it is refused.
@@ -46,9 +39,12 @@ pub fn schedule(heap: Global, file: &[u8]) -> Result<Vec<u8>, AllocError>
 {
     let records = match read(heap, file) {
         Ok(records) => records,
-        Err(refusal) => return refused(heap, refusal.number().ok_or(AllocError)?),
+        Err(refusal) => {
+            let number = refusal.number().ok_or(AllocError)?;
+            return line(heap, "refused", usize::from(number));
+        }
     };
-    let mut text = first_line(heap, records.len())?;
+    let mut text = line(heap, "materials", records.len())?;
     put_lines(heap, &mut text, records.as_slice())?;
     Ok(text)
 }

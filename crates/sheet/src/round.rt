@@ -53,6 +53,7 @@ impl<R: Rounding, O: Overflow> Rounds<R, O> {
             ((i : ℕ) × (i < register_count self.now.program) × AtRegister self.now rows.now (λ v e. F.post test v e true) i)
             ((i : ℕ) → i < register_count self.now.program → AtRegister self.now rows.now (λ v e. F.post test v e false) i) }
     {
+        // A loop and not `any`: in its closure nothing would bound the place of a source.
         for (source, entry) in self.program.sources().iter().zip(&rows.registers) {
             if test(rows.working[*source], *entry) {
                 return true;

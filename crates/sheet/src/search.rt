@@ -33,6 +33,7 @@ impl<R: Rounding, O: Overflow> Rounds<R, O> {
         requires { Settles R.Rounding.rule O.Overflow.rule self.now rows.old }
         ensures { FallsTo R.Rounding.rule O.Overflow.rule self.now rows.old result rows.new }
     {
+        // The count is the answer, and no index.
         let mut count: u64 = 0;
         loop {
             let Ok(()) = self.round(rows, 0) else {

@@ -1,12 +1,39 @@
 use arithmetic::overflow::Wrap;
 use arithmetic::rounding::{Floor, Rounding, TowardZero};
 use arithmetic::setting::Setting;
-use forms::form::{Form, FormFault};
 use kinds::refusal::Refusal;
 use sheet::figures::{Figures, SheetFault};
 use sheet::sheet::sheet;
-use std::alloc::Global;
+use std::alloc::{AllocError, Global};
 use std::test::Fail;
+use wiring::graph::{Filter, Node, Wiring};
+
+// A wall panel in direct form 1: y = b0 × u - a1 × y1. Written out, as in crates/long_rounds: it is what is handed in.
+fn panel(heap: Global, list: &[i32]) -> Result<Filter, AllocError> {
+    let nodes = [
+        Node::Input,
+        Node::Register(0),
+        Node::Scale {
+            node: 0,
+            coefficient: 0,
+        },
+        Node::Scale {
+            node: 1,
+            coefficient: 1,
+        },
+        Node::Difference(2, 3),
+    ];
+    let wiring = Wiring {
+        nodes: nodes.to_vec(heap)?,
+        coefficients: 2,
+        output: 4,
+        sources: [4usize].to_vec(heap)?,
+    };
+    Ok(Filter {
+        wiring,
+        coefficients: list.to_vec(heap)?,
+    })
+}
 
 // Three rows with a place more than the panel has registers.
 #[derive(Clone, Copy)]
@@ -22,41 +49,33 @@ const LENT: Rows = Rows {
     band: [9, 9],
 };
 
-// The sheet of y = b × u - a × y1, of coefficients b and a, in direct form 1 and format 4.4, into rows of any length.
+// The panel's sheet in format 4.4, into rows of any length.
 fn lent_sheet<R: Rounding>(
     heap: Global,
     rounding: R,
-    list: [i32; 2],
+    list: &[i32],
     range: i32,
     peaks: &mut [u32],
     ceilings: &mut [u64],
     band: &mut [u32],
-) -> Result<Result<Figures, SheetFault>, FormFault> {
-    let [b, a] = list;
+) -> Result<Result<Figures, SheetFault>, AllocError> {
     let setting = Setting {
         whole: 4,
         fraction: 4,
         rounding,
         overflow: Wrap,
     };
-    Ok(sheet(
-        &setting,
-        Form::Direct1.build(heap, &[b], &[a])?,
-        range,
-        peaks,
-        ceilings,
-        band,
-    ))
+    Ok(sheet(&setting, panel(heap, list)?, range, peaks, ceilings, band))
 }
 
 // The same into the three rows.
 fn panel_sheet<R: Rounding>(
     heap: Global,
     rounding: R,
-    list: [i32; 2],
+    list: &[i32],
     range: i32,
     rows: &mut Rows,
-) -> Result<Result<Figures, SheetFault>, FormFault> {
+) -> Result<Result<Figures, SheetFault>, AllocError> {
     lent_sheet(
         heap,
         rounding,
@@ -71,7 +90,7 @@ fn panel_sheet<R: Rounding>(
 #[test]
 fn panel_toward_zero(rt: HostRuntime) -> Result<(), Fail> {
     let mut rows = LENT;
-    let figures = panel_sheet(rt.alloc(), TowardZero, [8, -8], 64, &mut rows)?;
+    let figures = panel_sheet(rt.alloc(), TowardZero, &[8, -8], 64, &mut rows)?;
     assert_eq!(rt;
         figures,
         Ok(Figures {
@@ -91,7 +110,7 @@ fn panel_toward_zero(rt: HostRuntime) -> Result<(), Fail> {
 #[test]
 fn panel_down(rt: HostRuntime) -> Result<(), Fail> {
     let mut rows = LENT;
-    let figures = panel_sheet(rt.alloc(), Floor, [8, -8], 64, &mut rows)?;
+    let figures = panel_sheet(rt.alloc(), Floor, &[8, -8], 64, &mut rows)?;
     assert_eq!(rt;
         figures,
         Ok(Figures {
@@ -111,7 +130,7 @@ fn panel_down(rt: HostRuntime) -> Result<(), Fail> {
 #[test]
 fn no_damping_has_no_sheet(rt: HostRuntime) -> Result<(), Fail> {
     let mut rows = LENT;
-    let figures = panel_sheet(rt.alloc(), TowardZero, [16, -16], 1, &mut rows)?;
+    let figures = panel_sheet(rt.alloc(), TowardZero, &[16, -16], 1, &mut rows)?;
     assert_eq!(rt; figures, Err(SheetFault::Node(4, Refusal::Peak)));
     assert_eq!(rt;
         (rows.peaks, rows.ceilings, rows.band),
@@ -125,11 +144,11 @@ fn range_is_a_word_from_zero_up(rt: HostRuntime) -> Result<(), Fail> {
     let heap = rt.alloc();
     let mut rows = LENT;
     assert_eq!(rt;
-        panel_sheet(heap, TowardZero, [8, -8], 128, &mut rows)?,
+        panel_sheet(heap, TowardZero, &[8, -8], 128, &mut rows)?,
         Err(SheetFault::Range)
     );
     assert_eq!(rt;
-        panel_sheet(heap, TowardZero, [8, -8], -1, &mut rows)?,
+        panel_sheet(heap, TowardZero, &[8, -8], -1, &mut rows)?,
         Err(SheetFault::Range)
     );
     assert_eq!(rt;
@@ -137,7 +156,7 @@ fn range_is_a_word_from_zero_up(rt: HostRuntime) -> Result<(), Fail> {
         ([9, 9], [9, 9], [9, 9])
     );
     assert_eq!(rt;
-        panel_sheet(heap, TowardZero, [8, -8], 0, &mut rows)?,
+        panel_sheet(heap, TowardZero, &[8, -8], 0, &mut rows)?,
         Ok(Figures {
             peak: 0,
             ceiling: 16384,
@@ -146,7 +165,7 @@ fn range_is_a_word_from_zero_up(rt: HostRuntime) -> Result<(), Fail> {
         })
     );
     assert_eq!(rt;
-        panel_sheet(heap, TowardZero, [8, -8], 127, &mut rows)?,
+        panel_sheet(heap, TowardZero, &[8, -8], 127, &mut rows)?,
         Ok(Figures {
             peak: 125,
             ceiling: 16384,
@@ -160,10 +179,8 @@ fn range_is_a_word_from_zero_up(rt: HostRuntime) -> Result<(), Fail> {
 #[test]
 fn short_rows_come_before_the_range(rt: HostRuntime) -> Result<(), Fail> {
     let heap = rt.alloc();
-    let list = [8, -8];
-    let mut peaks = [9u32];
-    let mut ceilings = [9u64];
-    let mut band = [9u32];
+    let list = &[8, -8];
+    let (mut peaks, mut ceilings, mut band) = ([9u32], [9u64], [9u32]);
     assert_eq!(rt;
         lent_sheet(heap, TowardZero, list, 128, &mut [], &mut [], &mut [])?,
         Err(SheetFault::PeaksRow)

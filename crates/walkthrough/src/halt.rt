@@ -52,10 +52,7 @@ impl From<FormFault> for Halt {
     ghost from_gives = { λ e r. r ≡ halted (form_number e) };
 
     fn from(fault: FormFault) -> Halt {
-        match fault.number() {
-            Some(number) => Halt::Refused(number),
-            None => Halt::Memory,
-        }
+        fault.number().map_or(Halt::Memory, Halt::Refused)
     }
 }
 

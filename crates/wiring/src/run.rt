@@ -23,6 +23,7 @@ pub(crate) fn clear<K: Kind, R: Rounding, O: Overflow>(
     ensures { row.new ≡ replicate n (arithmetic_of K.Kind.model R.Rounding.rule O.Overflow.rule values.now).zero ++ drop n row.old }
 {
     let zero = values.kind.zero(&values.setting);
+    // The slice's `fill` asks that a clone cannot fail, and no law says so of a kind's values.
     for place in row[..n].iter_mut() {
         *place = zero;
     }
@@ -72,6 +73,7 @@ pub(crate) fn work_nodes<K: Kind, R: Rounding, O: Overflow>(
     ensures answer { result ≡ answered (work (arithmetic_of K.Kind.model R.Rounding.rule O.Overflow.rule values.now) coefficients.now registers.now sample [] nodes.now) }
     ensures row { working.new ≡ row_after (arithmetic_of K.Kind.model R.Rounding.rule O.Overflow.rule values.now).zero (length nodes.now) working.old (work (arithmetic_of K.Kind.model R.Rounding.rule O.Overflow.rule values.now) coefficients.now registers.now sample [] nodes.now) }
 {
+    // By the index: a node reads the places before its own.
     for (i, node) in nodes.iter().enumerate() {
         match value(
             values,

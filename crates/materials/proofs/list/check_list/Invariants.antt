@@ -6,6 +6,6 @@ use Rattle.materials.proofs.list.check_list.Given as goal
 
 abbrev pub invariant-loop-i : goal.invariant-loop-i
 invariant-loop-i l =
-    (faults_in record_fault called (map called (take l.i l.records)) (l.i + 1) (drop l.i l.records) ≡ list_fault l.records)
-    × (l.size ≡ 2 + 6 * length l.records + length (flat_map bytes_of (take l.i l.records)))
-    × (l.size ≤ 2 + 6 * length l.records + 116 * l.i)
+    (faults_in record_fault called (map called (take l.i-counter l.records)) (l.i-counter + 1) (drop l.i-counter l.records) ≡ list_fault l.records)
+    × (l.size ≡ 2 + 6 * length l.records + length (flat_map bytes_of (take l.i-counter l.records)))
+    × (l.size ≤ 2 + 6 * length l.records + 116 * l.i-counter)
