@@ -11,7 +11,7 @@ use materials::record::Record;
 use std::alloc::Global;
 use wiring::graph::Filter;
 
-// The record's format, toward zero and wrapping.
+// The record's format, toward zero and wrapping. The rules are types here, where a record's own setting chooses them at run time.
 pub fn setting_of(record: &Record) -> Setting<TowardZero, Wrap> {
     Setting {
         whole: u32::from(record.whole_bits),

@@ -16,6 +16,7 @@ impl Digest for Figures {
 // Makes the record's sheet for samples up to 2048, and answers the digest with its figures and its first peak and ceiling.
 fn make(heap: Global, record: &Record, digest: u64) -> anyhow::Result<u64> {
     let filter = filter_of(heap, record)?;
+    // Rows of its own and not `figures`: the digest has the box's first entries too.
     let mut peaks = [0u32; MAX_REGISTERS];
     let mut ceilings = [0u64; MAX_REGISTERS];
     let mut band = [0u32; MAX_REGISTERS];

@@ -21,6 +21,7 @@ impl<R: Rounding, O: Overflow> Rounds<R, O> {
             .program
             .work(&self.values, &rows.registers, &mut rows.working, sample)
         {
+            // Here and not in a From: a short row cannot be, and is no fault of a sheet.
             Ok(()) => Ok(()),
             Err(RunFault::Node(k, refusal)) => Err(SheetFault::Node(k, refusal)),
             Err(RunFault::Row(_)) => unreachable(),
