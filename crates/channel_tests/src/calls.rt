@@ -232,3 +232,23 @@ fn no_zeros_or_one_to_settle(rt: HostRuntime) -> Result<(), Fail> {
     assert_eq!(rt; channel.watch(), None);
     Ok(())
 }
+
+#[test]
+fn a_refused_swap_keeps_the_coefficients(rt: HostRuntime) -> Result<(), Fail> {
+    let heap = rt.alloc();
+    let mut row = [NINE];
+    let mut working = [NINE; 5];
+    let mut channel = open(
+        4,
+        panel(heap, 4, 1)?,
+        [8, -8].to_vec(heap)?,
+        &mut row,
+        settling(6),
+    )?;
+    assert_eq!(rt; channel.watch(), Some(State::Settled));
+    assert_eq!(rt; channel.swap(&[8]), Err(CallFault::OtherLength));
+    assert_eq!(rt; channel.swap(&[127, 128]), Err(CallFault::Coefficient(1)));
+    assert_eq!(rt; feed(&mut channel, &mut row, &mut working, 64), Ok(32));
+    assert_eq!(rt; feed(&mut channel, &mut row, &mut working, 0), Ok(16));
+    Ok(())
+}

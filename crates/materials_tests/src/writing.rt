@@ -134,7 +134,7 @@ fn make_names_equal(bytes: &mut [u8]) {
     }
 }
 
-// 512 records of one name: refused at the second, in memory and in a file.
+// 512 records of one name in a file: refused at the second.
 #[test]
 fn equal_names_end_at_once(rt: HostRuntime) -> Result<(), Fail> {
     let heap = rt.alloc();
