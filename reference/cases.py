@@ -511,18 +511,19 @@ class Maker:
             data[0:2] = self.pick(count + 1, max(0, count - 1), 512, 513, 256 + count, 65535,
                                   0).to_bytes(2, 'big')
         elif count >= 2:
-            # One record longer and the next shorter: the pairs still meet.
-            one = self.upto(0, count - 2)
-            at = 2 + 6 * one
-            step = self.pick(1, 4, -1, -4)
-            first = int.from_bytes(data[at + 4:at + 6], 'big') + step
-            offset = int.from_bytes(data[at + 6:at + 10], 'big') + step
-            second = int.from_bytes(data[at + 10:at + 12], 'big') - step
-            if min(first, second, offset) >= 0:
-                data[at + 4:at + 6] = first.to_bytes(2, 'big')
-                data[at + 6:at + 10] = offset.to_bytes(4, 'big')
-                data[at + 10:at + 12] = second.to_bytes(2, 'big')
+            self.move_border(data, 2 + 6 * self.upto(0, count - 2))
         return bytes(data)
+
+    def move_border(self, data, at):
+        """One record longer and the next shorter: the pairs still meet."""
+        step = self.pick(1, 4, -1, -4)
+        first = int.from_bytes(data[at + 4:at + 6], 'big') + step
+        offset = int.from_bytes(data[at + 6:at + 10], 'big') + step
+        second = int.from_bytes(data[at + 10:at + 12], 'big') - step
+        if min(first, second, offset) >= 0:
+            data[at + 4:at + 6] = first.to_bytes(2, 'big')
+            data[at + 6:at + 10] = offset.to_bytes(4, 'big')
+            data[at + 10:at + 12] = second.to_bytes(2, 'big')
 
     def file(self, damage=70):
         """A file's bytes, and the names it was made of."""

@@ -316,17 +316,34 @@ def sheets():
 
 # ---------------------------------------------------------------- files
 
+OAK, WALL = part(b'oak panel'), part(b'echo wall', b=(16,), a=(-16,))
+
+
+def tell(data, *names):
+    """Has a file read, scheduled and looked up in."""
+    say('read', hexed(data))
+    say('schedule', hexed(data))
+    for name in names:
+        say('look', hexed(data), hexed(name))
+
+
+def alone(data, *names):
+    """Tells a file of one part."""
+    tell(ref.file_of_parts([data]), *names)
+
+
 def files():
-    oak, wall = part(b'oak panel'), part(b'echo wall', b=(16,), a=(-16,))
-    two = ref.file_of_parts([oak, wall])
+    directories()
+    names()
+    settings()
+    words()
+    orders()
+
+
+def directories():
+    """Counts and pairs."""
+    two = ref.file_of_parts([OAK, WALL])
     assert len(two) == 64
-
-    def tell(data, *names):
-        say('read', hexed(data))
-        say('schedule', hexed(data))
-        for name in names:
-            say('look', hexed(data), hexed(name))
-
     tell(two, b'oak panel', b'echo wall', b'oak', b'Oak panel', b'oak panel ', b'')
     tell(b'\0\0', b'a', b'')
     tell(b'\0\0\0', b'a')
@@ -345,59 +362,64 @@ def files():
     tell(two[:-1], b'oak panel')
     tell(two + b'\0', b'oak panel')
     tell(two[:2] + two[8:14] + two[2:8] + two[14:])             # pairs out of order
-    tell(b'\0\1\1\0\0\x08' + two[6:8] + oak)                    # an offset far away
-    tell(b'\0\1' + two[2:14] + oak)
+    tell(b'\0\1\1\0\0\x08' + two[6:8] + OAK)                    # an offset far away
+    tell(b'\0\1' + two[2:14] + OAK)
     # the same part named twice
     tell(two[:8] + two[2:8] + two[14:])
 
-    def alone(data, *names):
-        tell(ref.file_of_parts([data]), *names)
 
-    # names
+def names():
     alone(b'')
     alone(b'\x09')
-    alone(b'\0' + oak[1:])
-    alone(b'\x29' + b'a' * 41 + oak[10:])
-    alone(b'\x28' + b'a' * 40 + oak[10:], b'a' * 40, b'a' * 39)
-    alone(b'\1~' + oak[10:], b'~')
-    alone(b'\1 ' + oak[10:], b' ')
-    alone(b'\1\x1f' + oak[10:])
-    alone(b'\1\x7f' + oak[10:])
-    alone(b'\1\xff' + oak[10:])
-    alone(b'\1a' + oak[10:16])
-    alone(b'\1a' + oak[10:17])                                  # no room for the words: 8
-    alone(b'\xff' + oak[1:])
-    # letters, formats, counts
+    alone(b'\0' + OAK[1:])
+    alone(b'\x29' + b'a' * 41 + OAK[10:])
+    alone(b'\x28' + b'a' * 40 + OAK[10:], b'a' * 40, b'a' * 39)
+    alone(b'\1~' + OAK[10:], b'~')
+    alone(b'\1 ' + OAK[10:], b' ')
+    alone(b'\1\x1f' + OAK[10:])
+    alone(b'\1\x7f' + OAK[10:])
+    alone(b'\1\xff' + OAK[10:])
+    alone(b'\1a' + OAK[10:16])
+    alone(b'\1a' + OAK[10:17])                                  # no room for the words: 8
+    alone(b'\xff' + OAK[1:])
+
+
+def settings():
+    """Letters, formats and counts."""
     for at, letters in ((10, b'12T3t\0\x31\xb1'), (11, b'FNZfWn\0'), (12, b'WSXwsFx\0')):
         for letter in letters:
-            alone(oak[:at] + bytes([letter]) + oak[at + 1:])
+            alone(OAK[:at] + bytes([letter]) + OAK[at + 1:])
     for k, l in ((3, 4), (4, 4), (1, 7), (7, 1), (0, 8), (8, 0), (12, 12), (12, 13), (255, 9), (23, 1), (1, 24)):
-        alone(oak[:13] + bytes([k, l]) + oak[15:])
+        alone(OAK[:13] + bytes([k, l]) + OAK[15:])
     for nb, na in ((0, 2), (2, 0), (1, 1), (1, 2), (9, 8), (10, 0), (1, 9), (2, 1), (255, 3), (0, 0), (1, 255)):
-        alone(oak[:15] + bytes([nb, na]) + oak[17:])
+        alone(OAK[:15] + bytes([nb, na]) + OAK[17:])
     alone(part(b'full', b=[1] * 9, a=[0] * 8), b'full')
     for form in '12T':
         alone(part(b'full', form, 'NS', 2, 22, [300000] * 9, [-200000, 200000] * 4), b'full')
         alone(part(b'bare', form, 'NS', 2, 22, [300000], []), b'bare')
-    alone(oak + b'\0')
-    alone(oak[:-1])
-    # words
+    alone(OAK + b'\0')
+    alone(OAK[:-1])
+
+
+def words():
     for word in (127, 128, -128, -129, 2 ** 31 - 1, -2 ** 31, 0):
-        alone(oak[:-4] + word.to_bytes(4, 'big', signed=True))
-        alone(oak[:-8] + word.to_bytes(4, 'big', signed=True) + oak[-4:])
-    # order within a record, and between records
+        alone(OAK[:-4] + word.to_bytes(4, 'big', signed=True))
+        alone(OAK[:-8] + word.to_bytes(4, 'big', signed=True) + OAK[-4:])
+
+
+def orders():
+    """What is told first, within a record and between records; full files."""
     alone(b'\1\x7fQQQ\0\0\0\0')
     alone(b'\1aQQQ\0\0\0\0')
     alone(b'\1a1FW\0\0\0\0')
     alone(b'\1a1FW\4\4\0\0')
     alone(b'\1a1FW\4\4\1\0')
-    tell(ref.file_of_parts([oak, oak]), b'oak panel')           # a name used before
-    tell(ref.file_of_parts([oak, wall, oak]), b'oak panel')
-    tell(ref.file_of_parts([oak, oak[:-1] + b'\x80']))          # 9 before 10
-    tell(ref.file_of_parts([oak, wall[:-1], oak]))
-    tell(ref.file_of_parts([oak, b'', wall]))
-    tell(ref.file_of_parts([oak[:-1], wall[:10] + b'Q' + wall[11:]]))
-    # full files
+    tell(ref.file_of_parts([OAK, OAK]), b'oak panel')           # a name used before
+    tell(ref.file_of_parts([OAK, WALL, OAK]), b'oak panel')
+    tell(ref.file_of_parts([OAK, OAK[:-1] + b'\x80']))          # 9 before 10
+    tell(ref.file_of_parts([OAK, WALL[:-1], OAK]))
+    tell(ref.file_of_parts([OAK, b'', WALL]))
+    tell(ref.file_of_parts([OAK[:-1], WALL[:10] + b'Q' + WALL[11:]]))
     many = [part(b'%03d' % n, a=()) for n in range(513)]
     tell(ref.file_of_parts(many[:512]), b'000', b'511', b'512')
     tell(ref.file_of_parts(many), b'000')

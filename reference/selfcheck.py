@@ -227,11 +227,7 @@ def follow(setting, wiring, words, kind_name, watch, sheet, calls):
             assert before == (row, channel.coefficients, channel.show_watch())
             if refusal.place is not None:
                 assert working[:len(wiring.nodes)] == [channel.kind.nought()] * len(wiring.nodes)
-                # A sheet that fits promises that no sample in its range is refused at a node.
-                if sheet is not None and kind_name != 'bound' and state not in ('spoilt', 'lapsed'):
-                    assert abs(call[3]) > watch[0]
-                if refusal.number == 18:
-                    assert fixed_run(setting, wiring, book.words, book.fixed, call[3]) is None
+                at_node(setting, wiring, kind_name, watch, sheet, state, refusal, call[3], book)
             elif call[0] == 'f':
                 assert working == ['untouched'] * call[2]
             continue
@@ -250,6 +246,15 @@ def follow(setting, wiring, words, kind_name, watch, sheet, calls):
                      fixed[wiring.output], exact[wiring.output], book)
         for value, word, number in zip(row, book.fixed, book.exact):
             assert covers(kind_name, value, word, number)
+
+
+def at_node(setting, wiring, kind_name, watch, sheet, state, refusal, u, book):
+    """What a refusal at a node says of the sample."""
+    # A sheet that fits promises that no sample in its range is refused at a node.
+    if sheet is not None and kind_name != 'bound' and state not in ('spoilt', 'lapsed'):
+        assert abs(u) > watch[0]
+    if refusal.number == 18:
+        assert fixed_run(setting, wiring, book.words, book.fixed, u) is None
 
 
 def keep(wiring, watch, sheet, before, after, u, fixed, exact, book):
