@@ -248,7 +248,7 @@ fn a_refused_swap_keeps_the_coefficients(rt: HostRuntime) -> Result<(), Fail> {
     assert_eq!(rt; channel.watch(), Some(State::Settled));
     assert_eq!(rt; channel.swap(&[8]), Err(CallFault::OtherLength));
     assert_eq!(rt; channel.swap(&[127, 128]), Err(CallFault::Coefficient(1)));
-    assert_eq!(rt; feed(&mut channel, &mut row, &mut working, 64), Ok(32));
-    assert_eq!(rt; feed(&mut channel, &mut row, &mut working, 0), Ok(16));
+    assert_eq!(rt; channel.feed(&mut row, &mut working, 64), Ok(word(32)));
+    assert_eq!(rt; channel.feed(&mut row, &mut working, 0), Ok(word(16)));
     Ok(())
 }
