@@ -2,6 +2,7 @@ pub mod Rows
 pub mod Words
 pub mod Bytes
 pub mod Places
+pub mod Parted
 pub mod Writes
 pub mod Chains
 pub mod Turns

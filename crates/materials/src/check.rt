@@ -46,6 +46,7 @@ pub(crate) fn checked(file: &[u8]) -> Result<Directory<'_>, Refusal>
     ensures answer { MatchResult result (λ d. (d.file.now ≡ file.now) × (refusal file.now ≡ None)) (λ e. refusal file.now ≡ Some e) }
     ensures numbers { Tells (file_table file.now) result }
     ensures exactly { MatchResult result (λ _. Encoding file.now) (λ _. Encoding file.now → ⊥) }
+    ensures names { OnOk result (OneRecordEach file.now) }
 {
     let directory = Directory::of(file)?;
     check_records(&directory)?;

@@ -13,4 +13,5 @@ pub mod read;
 pub mod record;
 pub mod refusal;
 pub mod round_trip;
+mod same;
 pub mod write;

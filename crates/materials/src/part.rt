@@ -9,6 +9,7 @@ ghost use Rattle.materials.specs.Records.{material as material_in, name_of as na
 use crate::coefficients::bytes_hold;
 use crate::fields::{all_printable, check_counts, choices_of, format_of};
 use crate::refusal::RecordFault;
+use crate::same::same_bytes;
 use arithmetic::format::Format;
 
 /// A record in a file, cut into its fields; the coefficients are left as bytes.
@@ -111,5 +112,5 @@ fn part_name(part: &[u8]) -> &[u8]
 pub(crate) fn is_named(part: &[u8], name: &[u8]) -> bool
     ensures { result ≡ bytes_eq (name_in part.now) name.now }
 {
-    part_name(part) == name
+    same_bytes(part_name(part), name)
 }
