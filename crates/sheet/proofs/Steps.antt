@@ -45,7 +45,7 @@ module _ {R O : Type 0} {r : R → RoundingRule} {o : O → OverflowRule} (lr : 
     met_here = subst (λ l. Met (rounds_meaning r o a) (rounds_graph a) (rounds_list a) (nat_abs u) (box_in (rounds_graph a) l)) (sym done.0) met
 
     -- the last one
-    pub close_ends : Each₂ Below (made_box a after) (held_box a after) → SearchAnswer r o a (nat_abs u) (Ok after)
+    pub close_ends : Each₂ Below (made_box a after) (held_box a after) → SearchAnswer r o a (nat_abs u) (Ok tt) after
     close_ends h =
         met_closed (rounds_meaning r o a) (lawful lr lo a) (rounds_graph a) (rounds_list a) (nat_abs u) (held_box a after) done.1 (made_output a after) met_here taken_at
         (subst (λ l. Each₂ Below l (held_box a after)) done.3.sources h) done.3.output
@@ -110,7 +110,7 @@ at_node h Range p = p
 
 -- a round that refuses
 pub close_refused : {R O : Type 0} {r : R → RoundingRule} {o : O → OverflowRule} → ((x : R) → LawfulRounding (r x)) → ((x : O) → LawfulOverflow (o x)) → (a : Rounds R O) (before after : BoundRows) (u : ℤ) → pos (nat_abs u) ≡ u
-    → Met (rounds_meaning r o a) (rounds_graph a) (rounds_list a) (nat_abs u) (held_box a before) → (f : SheetFault) → RoundAnswer r o a u before (Err f) after → SearchAnswer r o a (nat_abs u) (Err f)
+    → Met (rounds_meaning r o a) (rounds_graph a) (rounds_list a) (nat_abs u) (held_box a before) → (f : SheetFault) → RoundAnswer r o a u before (Err f) after → SearchAnswer r o a (nat_abs u) (Err f) after
 close_refused {r = r} {o = o} lr lo a before after u positive met =
     at_node (λ k e h. met_refused (rounds_meaning r o a) (lawful lr lo a) (rounds_graph a) (rounds_list a) (nat_abs u) (held_box a before) k e met
     (ap (λ (v : ℤ). run (bound_arithmetic (rounds_meaning r o a)) (rounds_graph a) (rounds_list a) (held_box a before) v) positive ∙ h))

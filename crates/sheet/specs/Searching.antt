@@ -121,9 +121,9 @@ module _ {R O : Type 0} (r : R → RoundingRule) (o : O → OverflowRule) (a : R
   RoundAnswer u before (Err f) after = IsAtNode (λ k e. run (bound_arithmetic rounds_meaning) (rounds_graph a) (rounds_list a) (held_box a before) u ≡ Err (OfRun k e)) f
 
   -- the search from zero: the register row has the least closed box and the working row the output of the round from it
-  abbrev pub SearchAnswer : ℕ → Result BoundRows SheetFault → Type 0
-  SearchAnswer X (Ok rows) = Least rounds_meaning (rounds_graph a) (rounds_list a) X (held_box a rows) (made_output a rows)
-  SearchAnswer X (Err f) = IsAtNode (Nowhere rounds_meaning (rounds_graph a) (rounds_list a) X) f
+  abbrev pub SearchAnswer : ℕ → Result (Unit {0}) SheetFault → BoundRows → Type 0
+  SearchAnswer X (Ok _) rows = Least rounds_meaning (rounds_graph a) (rounds_list a) X (held_box a rows) (made_output a rows)
+  SearchAnswer X (Err f) rows = IsAtNode (Nowhere rounds_meaning (rounds_graph a) (rounds_list a) X) f
 
   -- rounds with input 0 can be worked from the box in the register row
   pub record Settles (rows : BoundRows) : Type 0 where

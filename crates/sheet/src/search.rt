@@ -2,28 +2,25 @@ use crate::figures::SheetFault;
 use crate::rounds::{BoundRows, Rounds, ZERO};
 use arithmetic::overflow::Overflow;
 use arithmetic::rounding::Rounding;
-use wiring::limits::{MAX_NODES, MAX_REGISTERS};
+use wiring::limits::MAX_REGISTERS;
 
 impl<R: Rounding, O: Overflow> Rounds<R, O> {
     ghost use Rattle.std.specs.Prelude.{◌≡◌, pos, unsigned_abs};
     ghost use Rattle.sheet.specs.Searching.{SearchAnswer, Settles, FallsTo};
 
     // Rounds from zero until no source has more than its register's entry: the box in the register row is then the least closed box,
-    // and the working row has the round from it.
-    pub(crate) fn close(&self, range: i32) -> Result<BoundRows, SheetFault>
+    // and the working row has the round from it. The rows are lent, since an answer that has them would be copied.
+    pub(crate) fn close(&self, rows: &mut BoundRows, range: i32) -> Result<(), SheetFault>
         requires { pos (unsigned_abs range) ≡ range }
-        ensures { SearchAnswer R.Rounding.rule O.Overflow.rule self.now (unsigned_abs range) result }
+        ensures { SearchAnswer R.Rounding.rule O.Overflow.rule self.now (unsigned_abs range) result rows.new }
     {
-        let mut rows = BoundRows {
-            registers: [ZERO; MAX_REGISTERS],
-            working: [ZERO; MAX_NODES],
-        };
+        rows.registers = [ZERO; MAX_REGISTERS];
         loop {
-            self.round(&mut rows, range)?;
-            if !self.raises(&rows) {
-                return Ok(rows);
+            self.round(rows, range)?;
+            if !self.raises(rows) {
+                return Ok(());
             }
-            self.take_sources(&mut rows);
+            self.take_sources(rows);
         }
     }
 

@@ -7,7 +7,7 @@ ghost use Rattle.sheet.specs.Searching.{rounds_graph, rounds_list, rounds_meanin
 ghost use Rattle.sheet.specs.Calls.{Rows, rows, zero_rows, call_fault, Verdict, SheetAnswer};
 
 use crate::figures::{Figures, SheetFault};
-use crate::rounds::Rounds;
+use crate::rounds::{BoundRows, Rounds, ZERO};
 use crate::rows::write;
 use arithmetic::format::Format;
 use arithmetic::overflow::Overflow;
@@ -16,7 +16,7 @@ use arithmetic::setting::Setting;
 use kinds::bounds::BoundKind;
 use kinds::values::Values;
 use wiring::graph::Filter;
-use wiring::limits::MAX_REGISTERS;
+use wiring::limits::{MAX_NODES, MAX_REGISTERS};
 use wiring::program::Program;
 
 // A row too short for so many registers, or a range that is no word from 0 up.
@@ -57,15 +57,16 @@ fn make<R: Rounding, O: Overflow>(
     ensures { Verdict (rounds_meaning R.Rounding.rule O.Overflow.rule rounds.now) (rounds_graph rounds.now) (rounds_list rounds.now) (unsigned_abs range) (rows peaks.old ceilings.old band.old) (rows peaks.new ceilings.new band.new) result }
 {
     let n = rounds.program.sources().len();
-    let mut rows = match rounds.close(range) {
-        Ok(rows) => rows,
-        Err(fault) => {
-            peaks[0..n].fill(0);
-            ceilings[0..n].fill(0);
-            band[0..n].fill(0);
-            return Err(fault);
-        }
+    let mut rows = BoundRows {
+        registers: [ZERO; MAX_REGISTERS],
+        working: [ZERO; MAX_NODES],
     };
+    if let Err(fault) = rounds.close(&mut rows, range) {
+        peaks[0..n].fill(0);
+        ceilings[0..n].fill(0);
+        band[0..n].fill(0);
+        return Err(fault);
+    }
     write(&rows.registers[0..n], |b| b.peak, peaks);
     write(&rows.registers[0..n], |b| b.ceiling, ceilings);
     let output = rounds.output(&rows);

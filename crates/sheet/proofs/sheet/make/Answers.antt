@@ -22,9 +22,9 @@ settle-count-requires g c =
     let law = lawful g.met.R.Rounding.lawful g.met.O.Overflow.lawful a in
     let w = program_graph a.program in
     let X = nat_abs (to_z w32 (of_z w32 c.args.range)) in
-    let least = c.in-Ok.ensures in record {
-      closed = quiet_closed s law w (program_list a.program) X (box_in w c.in-Ok.rows.registers) least.closed;
-      small = nth_small s law w (program_list a.program) X least.met.0 (box_in w c.in-Ok.rows.registers) least.met.1;
+    let least = c.in_default.ensures in record {
+      closed = quiet_closed s law w (program_list a.program) X (box_in w c.close.new.rows.registers) least.closed;
+      small = nth_small s law w (program_list a.program) X least.met.0 (box_in w c.close.new.rows.registers) least.met.1;
     }
 
 pub returns : goal.returns
@@ -36,12 +36,12 @@ returns g c =
     let out = sound_output w (program_list a.program) a.program.sound in
     let room = a.room in
     let n = ap length c.sources-n.ensures in
-    let least : Least s w (program_list a.program) (nat_abs c.args.range) (box_in w c.in-Ok.rows.registers) (get_or c.in-Ok.rows.working w.output none) =
-    subst (λ (u : ℤ). Least s w (program_list a.program) (nat_abs u) (box_in w c.in-Ok.rows.registers) (get_or c.in-Ok.rows.working w.output none)) (to_z-of_z w32 c.args.range c.ranges.range) c.in-Ok.ensures in
-    granted_verdict s w (program_list a.program) (nat_abs c.args.range) c.in-Ok.rows.registers c.settle-count.new.rows.registers c.in-Ok.rows.working c.settle-count.new.rows.working c.settle-count.result
+    let least : Least s w (program_list a.program) (nat_abs c.args.range) (box_in w c.close.new.rows.registers) (get_or c.close.new.rows.working w.output none) =
+    subst (λ (u : ℤ). Least s w (program_list a.program) (nat_abs u) (box_in w c.close.new.rows.registers) (get_or c.close.new.rows.working w.output none)) (to_z-of_z w32 c.args.range c.ranges.range) c.in_default.ensures in
+    granted_verdict s w (program_list a.program) (nat_abs c.args.range) c.close.new.rows.registers c.settle-count.new.rows.registers c.close.new.rows.working c.settle-count.new.rows.working c.settle-count.result
     fine.range least c.settle-count.ensures
     c.args.peaks.now c.args.ceilings.now c.args.band.now _ _ _
-    (parts_are (λ (b : Bound). b.peak) _ _ c.in-Ok.rows.registers c.args.peaks.now c.write.new.row (λ b v k. search rules) n c.write.ensures)
-    (parts_are (λ (b : Bound). b.ceiling) _ _ c.in-Ok.rows.registers c.args.ceilings.now c.write-2.new.row (λ b v k. search rules) n c.write-2.ensures)
+    (parts_are (λ (b : Bound). b.peak) _ _ c.close.new.rows.registers c.args.peaks.now c.write.new.row (λ b v k. search rules) n c.write.ensures)
+    (parts_are (λ (b : Bound). b.ceiling) _ _ c.close.new.rows.registers c.args.ceilings.now c.write-2.new.row (λ b v k. search rules) n c.write-2.ensures)
     (parts_are (λ (b : Bound). b.peak) _ _ c.settle-count.new.rows.registers c.args.band.now c.write-3.new.row (λ b v k. search rules) n c.write-3.ensures)
     _ _ c.output-output.ensures c.output.ensures

@@ -21,14 +21,14 @@ returns-in_err-round g c =
     let same = to_z-of_z w32 c.args.range c.ranges.range in
     let positive : pos (nat_abs (to_z w32 (of_z w32 c.args.range))) ≡ to_z w32 (of_z w32 c.args.range) = subst (λ (u : ℤ). pos (nat_abs u) ≡ u) (sym same) c.requires in
     let e = err_from_is_err_and c.from_residual.result c.from_residual.ensures.1 in
-    rw (e.1, e.2) (subst (λ (u : ℤ). SearchAnswer g.R.Rounding.rule g.O.Overflow.rule c.args.self.now (nat_abs u) (Err c.in_err-round.field-0.0)) same
+    rw (e.1, e.2) (subst (λ (u : ℤ). SearchAnswer g.R.Rounding.rule g.O.Overflow.rule c.args.self.now (nat_abs u) (Err c.in_err-round.field-0.0) c.round.new.rows) same
     (close_refused g.met.R.Rounding.lawful g.met.O.Overflow.lawful c.args.self.now c.loop-rows.rows c.round.new.rows (to_z w32 (of_z w32 c.args.range)) positive c.loop-rows.invariant c.in_err-round.field-0.0 c.in_err-round.ensures))
 
 pub returns-then-not-raises : goal.returns-then-not-raises
 returns-then-not-raises g c =
     let same = to_z-of_z w32 c.args.range c.ranges.range in
     let positive : pos (nat_abs (to_z w32 (of_z w32 c.args.range))) ≡ to_z w32 (of_z w32 c.args.range) = subst (λ (u : ℤ). pos (nat_abs u) ≡ u) (sym same) c.requires in
-    subst (λ (u : ℤ). SearchAnswer g.R.Rounding.rule g.O.Overflow.rule c.args.self.now (nat_abs u) (Ok c.round.new.rows)) same
+    subst (λ (u : ℤ). SearchAnswer g.R.Rounding.rule g.O.Overflow.rule c.args.self.now (nat_abs u) (Ok tt) c.round.new.rows) same
     (close_ends g.met.R.Rounding.lawful g.met.O.Overflow.lawful c.args.self.now c.loop-rows.rows c.round.new.rows (to_z w32 (of_z w32 c.args.range)) positive c.in_ok-round.ensures c.loop-rows.invariant c.if-not-raises.ensures)
 
 pub loop-rows-smaller : goal.loop-rows-smaller
