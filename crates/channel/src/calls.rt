@@ -44,7 +44,9 @@ impl<K: Kind, R: Rounding, O: Overflow> Channel<K, R, O> {
         ensures same { Same self.old self.new }
     {
         self.check_feed(registers.len(), working.len(), sample)?;
-        let output = self.program.step(&self.values, registers, working, sample)?;
+        // Named, so that what a refused step leaves can be spoken of.
+        let stepped = self.program.step(&self.values, registers, working, sample);
+        let output = stepped?;
         tell_sample(&mut self.watch, sample);
         Ok(output)
     }
